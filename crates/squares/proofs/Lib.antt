@@ -1,0 +1,16 @@
+-- Crates above cite Laws alone. The rest is about words, and private to this crate's proofs.
+pub mod Laws
+mod Bits
+mod Steps
+mod Tests
+mod Members
+mod Words
+mod Shifts
+mod Counts
+mod Least
+mod Lowest
+mod Files
+mod Flips
+mod Numbers
+mod Unique
+mod Marked

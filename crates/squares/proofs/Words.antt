@@ -1,0 +1,93 @@
+-- The words of the operations that go bit by bit, and of one square alone.
+use mathlib.Core.Path.{_≡_, sym, ap, ap₂, _∙_, subst}
+use Prim.Native.Nat.{ℕ, _+_, _-_, _*_, _/_, _%_, _^_, _≤_, _<_}
+use mathlib.Core.Bool.{Bool, true, false, _&&_, _||_, not, Bool·beq}
+use native.Mathlib.Nat.{one-mul, mod-eq-of-lt}
+use native.Mathlib.Omega.{arith}
+use lib.Bits.{bitAnd, bitOr, bitXor}
+use lib.Dec.{eqb, leb}
+use lib.Pow.{pow-lt}
+use borrow.Author.Tests.{lt-ltb, le-leb, lt-leb, ne-eqb}
+use Rattle.squares.specs.Bit.{odd, bit}
+use Rattle.squares.specs.Board.{onBoard}
+use Rattle.squares.specs.Sets.{has, setOf, andS, orS, xorS, andnotS, notS, emptyS, singleS}
+use Rattle.squares.specs.Answers.{SetValue, TruthValue, setIf, truthIf, singleAnswer, containsAnswer}
+use Rattle.squares.specs.declared.bitboard.Bitboard.{Bitboard}
+use Rattle.squares.proofs.Bits.{bit-of-zero, bit-and, bit-or, bit-xor, bit-not, bit-pow}
+use Rattle.squares.proofs.Steps.{board-on, eqb-same}
+use Rattle.squares.proofs.Members.{has-lo, has-hi, is-set, by-words}
+
+has-pair : (g : Bool → Bool → Bool) (a b r : Bitboard)
+    → ((i : ℕ) → i < 63 → bit i (r .lo) ≡ g (bit i (a .lo)) (bit i (b .lo))) → ((i : ℕ) → i < 18 → bit i (r .hi) ≡ g (bit i (a .hi)) (bit i (b .hi)))
+    → setOf (has r) ≡ setOf (λ n. g (has a n) (has b n))
+has-pair g a b r el eh =
+    by-words r (λ n. g (has a n) (has b n)) (λ i h. el i h ∙ sym (ap₂ g (has-lo a i h) (has-lo b i h))) (λ i h. eh i h ∙ sym (ap₂ g (has-hi a i h) (has-hi b i h)))
+
+pub and-words : (a b : Bitboard) → setOf (has (record { lo = bitAnd (a .lo) (b .lo); hi = bitAnd (a .hi) (b .hi) })) ≡ andS a b
+unfolding andS
+and-words a b = has-pair (λ p q. p && q) a b _ (λ i h. bit-and i (a .lo) (b .lo)) (λ i h. bit-and i (a .hi) (b .hi))
+
+pub or-words : (a b : Bitboard) → setOf (has (record { lo = bitOr (a .lo) (b .lo); hi = bitOr (a .hi) (b .hi) })) ≡ orS a b
+unfolding orS
+or-words a b = has-pair (λ p q. p || q) a b _ (λ i h. bit-or i (a .lo) (b .lo)) (λ i h. bit-or i (a .hi) (b .hi))
+
+pub xor-words : (a b : Bitboard) → setOf (has (record { lo = bitXor (a .lo) (b .lo); hi = bitXor (a .hi) (b .hi) })) ≡ xorS a b
+unfolding xorS
+xor-words a b = has-pair (λ p q. not (Bool·beq p q)) a b _ (λ i h. bit-xor i (a .lo) (b .lo)) (λ i h. bit-xor i (a .hi) (b .hi))
+
+-- a bit of `!x`, at 64 bits
+bit-not64 : (i a : ℕ) → a < 2 ^ 64 → i < 64 → bit i (2 ^ 64 - 1 - a) ≡ not (bit i a)
+bit-not64 i a h l = bit-not i 64 a h ∙ ap (λ (t : Bool). t && not (bit i a)) (lt-ltb i 64 l)
+
+module _ (a : Bitboard) (hl : a .lo < 2 ^ 64) (hh : a .hi < 2 ^ 64) where
+  pub not-words : setOf (has (record { lo = 2 ^ 64 - 1 - a .lo; hi = 2 ^ 64 - 1 - a .hi })) ≡ notS a
+  unfolding notS
+  not-words = has-pair (λ p q. not p) a a _ (λ i h. bit-not64 i (a .lo) hl (omega arith)) (λ i h. bit-not64 i (a .hi) hh (omega arith))
+
+  pub andnot-words : (b : Bitboard) → setOf (has (record { lo = bitAnd (2 ^ 64 - 1 - a .lo) (b .lo); hi = bitAnd (2 ^ 64 - 1 - a .hi) (b .hi) })) ≡ andnotS a b
+  unfolding andnotS
+  andnot-words b =
+      has-pair (λ p q. not p && q) a b _
+      (λ i h. bit-and i (2 ^ 64 - 1 - a .lo) (b .lo) ∙ ap (λ (t : Bool). t && bit i (b .lo)) (bit-not64 i (a .lo) hl (omega arith)))
+      (λ i h. bit-and i (2 ^ 64 - 1 - a .hi) (b .hi) ∙ ap (λ (t : Bool). t && bit i (b .hi)) (bit-not64 i (a .hi) hh (omega arith)))
+
+-- ---- one square alone: `1 << k`, at 64 bits
+one-shl : (k : ℕ) → k < 64 → (1 * 2 ^ k) % 2 ^ 64 ≡ 2 ^ k
+one-shl k h = ap (λ (x : ℕ). x % 2 ^ 64) (one-mul (2 ^ k)) ∙ mod-eq-of-lt (pow-lt h)
+
+pub single-lo : (n : ℕ) → 1 ≤ n → n ≤ 63 → record { lo = (1 * 2 ^ (n - 1)) % 2 ^ 64; hi = 0 } ≡ singleS n
+unfolding singleS
+single-lo n l h =
+    let e : (1 * 2 ^ (n - 1)) % 2 ^ 64 ≡ 2 ^ (n - 1) = one-shl (n - 1) (omega arith) in
+    is-set (record { lo = (1 * 2 ^ (n - 1)) % 2 ^ 64; hi = 0 }) (eqb n) (subst (λ (x : ℕ). x < 2 ^ 63) (sym e) (pow-lt {j = 63} (omega arith))) (omega arith)
+    (λ i k. ap (bit i) e ∙ bit-pow i (n - 1) ∙ eqb-same i (n - 1) n (1 + i) (λ q. omega arith) (λ q. omega arith))
+    (λ i k. bit-of-zero i ∙ sym (ne-eqb n (64 + i) (λ q. omega arith)))
+
+pub single-hi : (n : ℕ) → 63 < n → n ≤ 81 → record { lo = 0; hi = (1 * 2 ^ (n - 64)) % 2 ^ 64 } ≡ singleS n
+unfolding singleS
+single-hi n l h =
+    let e : (1 * 2 ^ (n - 64)) % 2 ^ 64 ≡ 2 ^ (n - 64) = one-shl (n - 64) (omega arith) in
+    is-set (record { lo = 0; hi = (1 * 2 ^ (n - 64)) % 2 ^ 64 }) (eqb n) (omega arith) (subst (λ (x : ℕ). x < 2 ^ 18) (sym e) (pow-lt {j = 18} (omega arith)))
+    (λ i k. bit-of-zero i ∙ sym (ne-eqb n (1 + i) (λ q. omega arith)))
+    (λ i k. ap (bit i) e ∙ bit-pow i (n - 64) ∙ eqb-same i (n - 64) n (64 + i) (λ q. omega arith) (λ q. omega arith))
+
+pub single-good : (n : ℕ) → 1 ≤ n → n ≤ 81 → record { number = 0; set = singleS n } ≡ singleAnswer n
+unfolding singleAnswer
+single-good n l h = rw (board-on 9 n l h)
+
+pub single-bad : (n : ℕ) → onBoard 9 n ≡ false → record { number = 2; set = emptyS } ≡ singleAnswer n
+unfolding singleAnswer
+single-bad n e = rw e
+
+-- ---- contains
+pub contains-lo : (s : Bitboard) (n : ℕ) → 1 ≤ n → n ≤ 63 → record { number = 0; truth = eqb (s .lo / 2 ^ (n - 1) % 2) 1 } ≡ containsAnswer s n
+unfolding containsAnswer has bit odd
+contains-lo s n l h = rw (board-on 9 n l (omega arith), le-leb n 63 h)
+
+pub contains-hi : (s : Bitboard) (n : ℕ) → 63 < n → n ≤ 81 → record { number = 0; truth = eqb (s .hi / 2 ^ (n - 64) % 2) 1 } ≡ containsAnswer s n
+unfolding containsAnswer has bit odd
+contains-hi s n l h = rw (board-on 9 n (omega arith) h, lt-leb n 63 l)
+
+pub contains-bad : (s : Bitboard) (n : ℕ) → onBoard 9 n ≡ false → record { number = 2; truth = false } ≡ containsAnswer s n
+unfolding containsAnswer
+contains-bad s n e = rw e

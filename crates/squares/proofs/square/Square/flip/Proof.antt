@@ -1,0 +1,26 @@
+-- The square is on the board in its range.
+use native.Mathlib.Omega.{arith}
+use Rattle.squares.specs.Board.{turnedTo}
+use Rattle.squares.specs.Answers.{turnedAnswer}
+use Rattle.squares.proofs.Steps.{board-on, board-low, board-high}
+use borrow.Author.Needs.{needs}
+use Rattle.squares.proofs.square.Square.flip.Statement.{statement}
+use Rattle.squares.proofs.square.Square.flip.Tie as tie
+
+sub-t4 : tie.Need-sub-t4
+sub-t4 c = search needs
+
+returns : tie.Need-returns
+unfolding turnedAnswer turnedTo
+returns c = rw (board-on 9 (c .before .before .args .square) (omega arith) (omega arith))
+
+returns-2 : tie.Need-returns-2
+unfolding turnedAnswer
+returns-2 c = rw (board-low 9 (c .before .args .square) (omega arith))
+
+returns-3 : tie.Need-returns-3
+unfolding turnedAnswer
+returns-3 c = rw (board-high 9 (c .before .before .args .square) (omega arith) (omega arith))
+
+pub flip-spec : {M : Type 1} → statement M
+flip-spec = tie.close (tie.spec sub-t4 returns returns-2 returns-3)

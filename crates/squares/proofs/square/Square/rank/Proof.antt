@@ -1,0 +1,26 @@
+-- The square is on the board in its range.
+use native.Mathlib.Omega.{arith}
+use Rattle.squares.specs.Board.{rankOf}
+use Rattle.squares.specs.Answers.{rankAnswer}
+use Rattle.squares.proofs.Steps.{board-on, board-low, board-high}
+use borrow.Author.Needs.{needs}
+use Rattle.squares.proofs.square.Square.rank.Statement.{statement}
+use Rattle.squares.proofs.square.Square.rank.Tie as tie
+
+add-t6 : tie.Need-add-t6
+add-t6 c = search needs
+
+returns : tie.Need-returns
+unfolding rankAnswer rankOf
+returns c = rw (board-on 9 (c .before .before .args .square) (omega arith) (omega arith))
+
+returns-2 : tie.Need-returns-2
+unfolding rankAnswer
+returns-2 c = rw (board-low 9 (c .before .args .square) (omega arith))
+
+returns-3 : tie.Need-returns-3
+unfolding rankAnswer
+returns-3 c = rw (board-high 9 (c .before .before .args .square) (omega arith) (omega arith))
+
+pub rank-spec : {M : Type 1} → statement M
+rank-spec = tie.close (tie.spec add-t6 returns returns-2 returns-3)

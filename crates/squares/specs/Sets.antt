@@ -1,0 +1,79 @@
+-- Sets of squares in two words, and what each operation means on them.
+use Prim.Native.Nat.{ℕ, zero, suc, _+_, _-_, _*_}
+use mathlib.Core.Bool.{Bool, true, false, _&&_, _||_, not, cond, Bool·beq}
+use lib.Dec.{eqb, leb}
+use Rattle.squares.specs.Bit.{bit, digit, word}
+use Rattle.squares.specs.Board.{onBoard, fileOf, rankOf, turnedTo, opposite, step}
+use Rattle.squares.specs.declared.bitboard.Bitboard.{Bitboard}
+use Rattle.squares.specs.declared.bitboard.Direction.{Direction}
+
+-- "square n is bit n - 1 of the first for n up to 63, else bit n - 64 of the second"; all other bits are stray, and no
+-- square's
+unfoldable pub has : Bitboard → ℕ → Bool
+has s n = onBoard 9 n && cond (leb n 63) (bit (n - 1) (s .lo)) (bit (n - 64) (s .hi))
+
+-- the set of the squares that pass a test, with every stray bit zero
+unfoldable pub setOf : (ℕ → Bool) → Bitboard
+setOf f = record { lo = word f 1 63; hi = word f 64 18 }
+
+-- "Empty, single, count, contains, or, and, xor, andnot (in the second, not in the first), not (within the 81)"
+unfoldable pub emptyS : Bitboard
+emptyS = setOf (λ n. false)
+
+unfoldable pub singleS : ℕ → Bitboard
+singleS n = setOf (eqb n)
+
+unfoldable pub orS : Bitboard → Bitboard → Bitboard
+orS a b = setOf (λ n. has a n || has b n)
+
+unfoldable pub andS : Bitboard → Bitboard → Bitboard
+andS a b = setOf (λ n. has a n && has b n)
+
+unfoldable pub xorS : Bitboard → Bitboard → Bitboard
+xorS a b = setOf (λ n. not (Bool·beq (has a n) (has b n)))
+
+unfoldable pub andnotS : Bitboard → Bitboard → Bitboard
+andnotS a b = setOf (λ n. not (has a n) && has b n)
+
+unfoldable pub notS : Bitboard → Bitboard
+notS a = setOf (λ n. not (has a n))
+
+-- how many of the k numbers from i on pass the test f
+unfoldable pub countOf : (ℕ → Bool) → ℕ → ℕ → ℕ
+countOf f i zero = 0
+countOf f i (suc k) = digit (f i) + countOf f (suc i) k
+
+-- how many squares a set has
+unfoldable pub size : Bitboard → ℕ
+size s = countOf (has s) 1 81
+
+unfoldable pub isEmpty : Bitboard → Bool
+isEmpty s = eqb (size s) 0
+
+-- "One file from a 9-bit pattern (bit 0 is rank A)"
+unfoldable pub fileS : ℕ → ℕ → Bitboard
+fileS f p = setOf (λ n. eqb (fileOf 9 n) f && bit (rankOf 9 n - 1) p)
+
+-- "and back": the nine bits of file f
+unfoldable pub patternOf : Bitboard → ℕ → ℕ
+patternOf s f = word (has s) (9 * f - 8) 9
+
+-- "Flip: n goes to 82 - n"
+unfoldable pub flipS : Bitboard → Bitboard
+flipS s = setOf (λ n. has s (turnedTo 9 n))
+
+-- the first of the k numbers from i on that passes the test f, or 0
+unfoldable pub firstOf : (ℕ → Bool) → ℕ → ℕ → ℕ
+firstOf f i zero = 0
+firstOf f i (suc k) = let rest = firstOf f (suc i) k in cond (f i) i rest
+
+-- "Pop: the smallest square, and the set without it"
+unfoldable pub smallest : Bitboard → ℕ
+smallest s = firstOf (has s) 1 81
+
+unfoldable pub withoutS : ℕ → Bitboard → Bitboard
+withoutS n s = setOf (λ m. has s m && not (eqb m n))
+
+-- "Shifts": a square is in the shifted set if the square d steps back was in the set
+unfoldable pub shiftS : Direction → ℕ → Bitboard → Bitboard
+shiftS dir d s = setOf (λ n. has s (step 9 (opposite dir) d n))

@@ -1,0 +1,50 @@
+// Squares by number, 1 to 81: nine times the file less nine, plus the rank.
+ghost use mathlib.Core.Path.{_≡_};
+ghost use Rattle.squares.specs.Answers.{numberGiven, squareAnswer, fileAnswer, rankAnswer, turnedAnswer};
+use crate::answers::NumberAnswer;
+
+pub struct Square;
+
+impl Square {
+    pub const NUM: usize = 81;
+
+    pub fn new(file: u8, rank: u8) -> NumberAnswer
+        ensures { λ r. ⌜ numberGiven r ≡ squareAnswer file rank ⌝ }
+    {
+        match file {
+            1..=9 => match rank {
+                1..=9 => NumberAnswer::Number(9 * file - 9 + rank),
+                _ => NumberAnswer::BadNumber,
+            },
+            _ => NumberAnswer::BadNumber,
+        }
+    }
+
+    pub fn file(square: u8) -> NumberAnswer
+        ensures { λ r. ⌜ numberGiven r ≡ fileAnswer square ⌝ }
+    {
+        match square {
+            1..=81 => NumberAnswer::Number((square - 1) / 9 + 1),
+            _ => NumberAnswer::BadNumber,
+        }
+    }
+
+    pub fn rank(square: u8) -> NumberAnswer
+        ensures { λ r. ⌜ numberGiven r ≡ rankAnswer square ⌝ }
+    {
+        match square {
+            1..=81 => NumberAnswer::Number((square - 1) % 9 + 1),
+            _ => NumberAnswer::BadNumber,
+        }
+    }
+
+    // The square that the other player sees in its place.
+    pub fn flip(square: u8) -> NumberAnswer
+        ensures { λ r. ⌜ numberGiven r ≡ turnedAnswer square ⌝ }
+    {
+        match square {
+            1..=81 => NumberAnswer::Number(82 - square),
+            _ => NumberAnswer::BadNumber,
+        }
+    }
+}
