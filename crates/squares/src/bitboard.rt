@@ -265,7 +265,7 @@ impl Bitboard {
             return SetAnswer::BadNumber;
         }
         let lo = self.lo & Self::MASK0;
-        let hi = self.hi & Self::MASK1;
+        let hi = self.hi & Self::MASK1; // a stray bit would come down onto the board
         let by = 9 * delta;
         if delta <= 7 {
             return SetAnswer::Set(Self::clean((lo >> by) | (hi << (63 - by)), hi >> by));

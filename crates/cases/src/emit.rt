@@ -1,0 +1,88 @@
+// Answers as text. The text is gathered in an array, which is written out when it is full and before each read.
+use crate::numbers::Numbers;
+use crate::numbers::read_u64;
+use crate::ops::MALFORMED;
+
+pub const ROOM: usize = 65536;
+
+pub type Bytes = [u8; ROOM];
+
+// How many bytes are gathered, and whether every write succeeded. After one that failed nothing more is written, so
+// that what came out is a beginning of the answers and lacks none in the middle.
+pub struct Gathered {
+    used: usize,
+    pub open: bool,
+}
+
+impl Gathered {
+    pub fn new() -> Self {
+        Self {
+            used: 0,
+            open: true,
+        }
+    }
+
+    // The answer of `count` numbers as a line: a question mark where there are none.
+    pub fn put_line(self, out: &mut Bytes, ans: &Numbers, count: usize) -> Self {
+        if count == MALFORMED {
+            return self.put_byte(out, b'?').put_byte(out, b'\n');
+        }
+        let mut gathered = self.put_number(out, read_u64(ans, 0));
+        for i in 1..count {
+            gathered = gathered
+                .put_byte(out, b' ')
+                .put_number(out, read_u64(ans, i));
+        }
+        gathered.put_byte(out, b'\n')
+    }
+
+    fn put_number(self, out: &mut Bytes, n: u64) -> Self {
+        let mut text = [0u8; 20];
+        let digits = io::decimal(n, &mut text);
+        let mut gathered = self;
+        for i in 0..digits {
+            gathered = gathered.put_byte(out, digit_at(&text, i));
+        }
+        gathered
+    }
+
+    fn put_byte(self, out: &mut Bytes, b: u8) -> Self {
+        let used = self.used;
+        if used < ROOM {
+            out[used] = b;
+            return Self {
+                used: used + 1,
+                open: self.open,
+            };
+        }
+        let rest = self.flush(out);
+        out[0] = b;
+        Self {
+            used: 1,
+            open: rest.open,
+        }
+    }
+
+    // Writes out what is gathered.
+    pub fn flush(self, out: &Bytes) -> Self {
+        Self {
+            used: 0,
+            open: self.open && write_first(out, self.used),
+        }
+    }
+}
+
+fn digit_at(text: &[u8; 20], i: usize) -> u8 {
+    if i < 20 { text[i] } else { b'0' }
+}
+
+// Writes the first n bytes, and says whether that succeeded. `io::count` leaves n as it is, and promises that the array
+// has so many.
+fn write_first(out: &Bytes, n: usize) -> bool {
+    if ROOM <= n {
+        return io::write_all(1, out);
+    }
+    let n = io::count(n as isize, out);
+    let all: &[u8] = out;
+    io::write_all(1, &all[..n])
+}

@@ -1,0 +1,39 @@
+// Which call a line asks for. The calls themselves stand in one file for each group of ops.
+use crate::number_ops;
+use crate::numbers::Numbers;
+use crate::numbers::read_u64;
+use crate::set_ops;
+
+// The answer numbers of these calls.
+pub const DONE: u64 = 0;
+
+pub const BAD_NUMBER: u64 = 2;
+
+// How many numbers the answer has where the line is not of the form.
+pub const MALFORMED: usize = 0;
+
+// Puts the answer to a line of `count` numbers into `ans`, and answers how many numbers it has.
+pub fn answer(nums: &Numbers, count: usize, ans: &mut Numbers) -> usize {
+    let op = read_u64(nums, 0);
+    if !has_count(op, count) {
+        return MALFORMED;
+    }
+    match op {
+        1..=14 => set_ops::answer(op, nums, ans),
+        15..=17 => number_ops::answer(op, nums, ans),
+        _ => MALFORMED,
+    }
+}
+
+// Whether the line of an op has so many numbers, the op itself among them. A line that is not of the form has none, and
+// so no op takes it.
+fn has_count(op: u64, count: usize) -> bool {
+    match op {
+        1 => count == 1,
+        2 | 16 | 17 => count == 2,
+        3 | 9 | 10 | 12 | 13 | 15 => count == 3,
+        4 | 11 => count == 4,
+        5..=8 | 14 => count == 5,
+        _ => false,
+    }
+}

@@ -1,0 +1,37 @@
+//! Case lines and answer lines as numbers.
+
+use std::io::{self, Write};
+
+/// The numbers of a line; nothing where the line is not of the form, or a number is past every place's range.
+pub fn parse(line: &[u8]) -> Option<Vec<u64>> {
+    line.split(|&byte| byte == b' ').map(number).collect()
+}
+
+fn number(digits: &[u8]) -> Option<u64> {
+    if digits.is_empty() {
+        return None;
+    }
+    digits.iter().try_fold(0_u64, |value, byte| match byte {
+        b'0'..=b'9' => value.checked_mul(10)?.checked_add((byte - b'0').into()),
+        _ => None,
+    })
+}
+
+/// A number of a place that takes 0..255; nothing where it is past that range.
+pub fn byte(number: u64) -> Option<u8> {
+    number.try_into().ok()
+}
+
+/// Writes an answer line; `-` where there is no answer to compare with.
+pub fn emit(out: &mut impl Write, answer: Option<&[u64]>) -> io::Result<()> {
+    match answer {
+        Some([first, rest @ ..]) => {
+            write!(out, "{first}")?;
+            for number in rest {
+                write!(out, " {number}")?;
+            }
+            writeln!(out)
+        }
+        _ => writeln!(out, "-"),
+    }
+}
