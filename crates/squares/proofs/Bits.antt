@@ -1,17 +1,16 @@
 -- The laws of `bit` and `word`: a bit of each machine operation, equality by bits, and the number of given bits.
-use mathlib.Core.Path.{_≡_, refl, sym, ap, ap₂, _∙_, subst}
+use mathlib.Core.Path.{_≡_, refl, sym, ap, ap₂, _∙_}
 use Prim.Native.Nat.{ℕ, zero, suc, _+_, _-_, _*_, _/_, _%_, _^_, _≤_, _<_, min, max}
-use mathlib.Core.Bool.{Bool, true, false, _&&_, _||_, not, cond, Bool·beq, and-true, false≢true, true≢false}
-use mathlib.Core.Logic.{_⊎_, inl, inr, ⊎-elim}
-use native.Mathlib.Nat.{add-zero, add-suc, suc-add, mod-one, mul-one, one-mul, sub-zero, suc-sub-suc, mod-lt, pow-suc, pow-zero, div-one, zero-div, mul-comm, div-div-eq-div-mul, div-add-mod', mod-eq-of-lt, mul-div-cancel, div-eq-of-lt, add-comm, sub-add-cancel}
+use mathlib.Core.Bool.{Bool, true, false, _&&_, _||_, not, Bool·beq, and-true, false≢true, true≢false}
+use mathlib.Core.Logic.{_⊎_, inl, inr}
+use native.Mathlib.Nat.{add-zero, add-suc, suc-add, mod-one, mul-one, one-mul, sub-zero, suc-sub-suc, mod-lt, pow-suc, div-one, zero-div, mod-eq-of-lt, mul-div-cancel, add-comm}
 use native.Mathlib.Omega.{arith}
-use native.Mathlib.Decide.{decLe}
 use native.Mathlib.Numerals.{add-one}
-use lib.Dec.{eqb, leb, ltb, T, leb·zero, leb·suc-zero, leb·suc-suc, eqb·zero-suc, eqb·suc-zero, eqb·suc-suc}
-use lib.Arith.{lt-one, digits-div, digits-mod}
-use lib.Pow.{pow-pos, pow-add, shr-shr, shr-lt, split, high, low, suc-ones, pow-mono, field, mod-mod-pow}
-use lib.Bits.{bitAnd, bitOr, bitXor, and-shr, or-shr, xor-shr, and-step, or-step, xor-step, differ, and-mask, shifted-half, shifted-even}
-use borrow.Author.Tests.{lt-ltb, le-ltb, le-leb, lt-leb, eq-eqb, ne-eqb}
+use lib.Dec.{eqb, leb, ltb, leb·zero, leb·suc-zero, leb·suc-suc, eqb·zero-suc, eqb·suc-zero, eqb·suc-suc}
+use lib.Arith.{lt-one, digits-mod}
+use lib.Pow.{pow-pos, shr-shr, field, mod-mod-pow}
+use lib.Bits.{bitAnd, bitOr, bitXor, and-shr, or-shr, xor-shr, and-step, or-step, xor-step, differ, shifted-half, shifted-even}
+use borrow.Author.Tests.{le-ltb}
 use Rattle.squares.specs.Bit.{odd, bit, digit, word, reversed9}
 
 two-pos : zero < 2

@@ -1,7 +1,7 @@
 -- The count of a set's members is the count of its words' bits.
-use mathlib.Core.Path.{_≡_, refl, sym, ap, ap₂, _∙_, subst}
-use Prim.Native.Nat.{ℕ, zero, suc, _+_, _-_, _*_, _/_, _%_, _^_, _≤_, _<_}
-use mathlib.Core.Bool.{Bool, true, false}
+use mathlib.Core.Path.{_≡_, refl, sym, ap, ap₂, _∙_}
+use Prim.Native.Nat.{ℕ, zero, suc, _+_, _/_, _%_, _^_, _<_}
+use mathlib.Core.Bool.{Bool}
 use native.Mathlib.Nat.{pow-suc, zero-add, suc-add, add-zero, add-suc, add-assoc, mod-lt}
 use native.Mathlib.Omega.{arith}
 use lib.Dec.{eqb}

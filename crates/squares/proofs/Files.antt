@@ -1,17 +1,17 @@
 -- One file's nine bits in a word, and back.
-use mathlib.Core.Path.{_≡_, refl, sym, ap, ap₂, _∙_, subst}
-use Prim.Native.Nat.{ℕ, zero, suc, _+_, _-_, _*_, _/_, _%_, _^_, _≤_, _<_}
-use mathlib.Core.Bool.{Bool, true, false, _&&_, and-false}
-use mathlib.Core.Logic.{_⊎_, ⊎-elim}
+use mathlib.Core.Path.{_≡_, sym, ap, _∙_, subst}
+use Prim.Native.Nat.{ℕ, _+_, _-_, _*_, _/_, _%_, _^_, _≤_, _<_}
+use mathlib.Core.Bool.{Bool, false, _&&_, and-false}
+use mathlib.Core.Logic.{⊎-elim}
 use native.Mathlib.Omega.{arith}
 use native.Mathlib.Nat.{lt-of-lt-of-le, mod-lt}
-use lib.Dec.{eqb, leb, ltb}
+use lib.Dec.{eqb}
 use lib.Pow.{pow-pos, shl-lt, pow-mono, shl-exact}
 use borrow.Author.Tests.{le-leb, lt-leb, lt-ltb, le-ltb, eq-eqb, ne-eqb}
 use Rattle.squares.specs.Bit.{bit, word}
 use Rattle.squares.specs.Board.{onSide, fileOf, rankOf}
-use Rattle.squares.specs.Sets.{has, setOf, emptyS, fileS, patternOf}
-use Rattle.squares.specs.Answers.{SetValue, NumberValue, setIf, numberIf, fromFileAnswer, getFileAnswer}
+use Rattle.squares.specs.Sets.{has, emptyS, fileS, patternOf}
+use Rattle.squares.specs.Answers.{fromFileAnswer, getFileAnswer}
 use Rattle.squares.specs.declared.bitboard.Bitboard.{Bitboard}
 use Rattle.squares.proofs.Bits.{bit-shl, bit-shr, bit-mod, bit-high, bit-of-zero, bit-ext, word-lt, bit-word}
 use Rattle.squares.proofs.Members.{has-lo, has-hi, is-set, le-or-lt}

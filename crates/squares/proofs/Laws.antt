@@ -1,15 +1,14 @@
 -- What a crate above may cite: the members of each set, sets given by rules, the shift law and its consequences at every
 -- direction and distance, pop, count, steps on a board of any side, and that an answer is determined by what it says.
 use mathlib.Core.Path.{_≡_, refl, sym, ap, ap₂, _∙_}
-use Prim.Native.Nat.{ℕ, _+_, _-_, _^_, _≤_, _<_}
+use Prim.Native.Nat.{ℕ, _+_, _^_, _≤_, _<_}
 use mathlib.Core.Bool.{Bool, true, false, _&&_, _||_, not, Bool·beq}
 use mathlib.Core.Logic.{⊎-elim}
 use native.Mathlib.Omega.{arith}
-use lib.Dec.{eqb, leb}
-use borrow.Author.Tests.{le-leb}
+use lib.Dec.{eqb}
 use Rattle.squares.specs.Board.{onBoard, turnedTo, opposite, step}
-use Rattle.squares.specs.Sets.{has, setOf, emptyS, singleS, orS, andS, xorS, andnotS, notS, size, flipS, withoutS, shiftS}
-use Rattle.squares.specs.Answers.{SetValue, setIf, singleAnswer, shiftAnswer}
+use Rattle.squares.specs.Sets.{has, setOf, emptyS, singleS, orS, andS, xorS, andnotS, notS, flipS, withoutS, shiftS}
+use Rattle.squares.specs.Answers.{SetValue, setIf, singleAnswer}
 use Rattle.squares.specs.declared.bitboard.Bitboard.{Bitboard}
 use Rattle.squares.specs.declared.bitboard.Direction.{Direction}
 use Rattle.squares.proofs.Steps.{decided}

@@ -1,24 +1,23 @@
 -- The lowest bit of a word, by `trailing_zeros`; `x & (x - 1)` takes just that bit away. So pop gives the smallest square
 -- and the rest.
-use mathlib.Core.Path.{_≡_, refl, sym, ap, ap₂, _∙_, subst}
+use mathlib.Core.Path.{_≡_, sym, ap, ap₂, _∙_, subst}
 use Prim.Native.Nat.{ℕ, zero, suc, _+_, _-_, _/_, _%_, _^_, _≤_, _<_}
 use mathlib.Core.Bool.{Bool, true, false, _&&_, not, and-true, and-self, false≢true}
-use mathlib.Core.Logic.{_⊎_, ⊎-elim}
-use native.Mathlib.Nat.{mod-lt, pow-suc, lt-of-le-of-lt, lt-of-lt-of-le, add-comm}
+use mathlib.Core.Logic.{⊎-elim}
+use native.Mathlib.Nat.{mod-lt, pow-suc, lt-of-le-of-lt, add-comm}
 use native.Mathlib.Omega.{arith}
 use native.Mathlib.Numerals.{one-add}
 use lib.Dec.{eqb, eqb·suc-zero, eqb·suc-suc}
 use lib.Bits.{bitAnd, bitOr, and-le-l, and-le-r, or-add-and, mask-lt}
 use lib.Count.{trailingZeros, under}
-use lib.Pow.{pow-mono}
-use borrow.Author.Tests.{ne-eqb, eq-eqb}
+use borrow.Author.Tests.{ne-eqb}
 use Rattle.squares.specs.Bit.{odd, bit}
 use Rattle.squares.specs.Sets.{has, setOf, isEmpty, size, countOf, firstOf, smallest, withoutS, emptyS}
-use Rattle.squares.specs.Answers.{PopValue, popAnswer}
+use Rattle.squares.specs.Answers.{popAnswer}
 use Rattle.squares.specs.declared.bitboard.Bitboard.{Bitboard}
 use Rattle.squares.proofs.Bits.{bin, bit-zero, bit-suc, bit-of-zero, bit-and, bit-high}
 use Rattle.squares.proofs.Steps.{board-zero, eqb-same}
-use Rattle.squares.proofs.Members.{has-lo, has-hi, has-off, has-none, has-masked, is-set, le-or-lt, setOf-cong, cleaned, empty-words}
+use Rattle.squares.proofs.Members.{has-lo, has-hi, has-off, has-none, has-masked, is-set, le-or-lt, setOf-cong, cleaned}
 use Rattle.squares.proofs.Least.{First, smallest-none, empty-none, empty-some, pop-at}
 
 trailing-odd : (k x : ℕ) → x % 2 ≡ 1 → trailingZeros (suc k) x ≡ 0

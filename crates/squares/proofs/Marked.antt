@@ -7,7 +7,7 @@ use lib.Dec.{eqb}
 use Rattle.squares.specs.Bit.{odd, bit, digit, word}
 use Rattle.squares.specs.Board.{onSide, onBoard, squareAt, fileOf, rankOf, turnedTo, fileStep, rankStep, step}
 use Rattle.squares.specs.Sets.{has, setOf, emptyS, notS, countOf, size, isEmpty, flipS, firstOf, smallest, withoutS, shiftS}
-use Rattle.squares.specs.Answers.{PopValue, popAnswer}
+use Rattle.squares.specs.Answers.{popAnswer}
 use Rattle.squares.specs.declared.bitboard.Bitboard.{Bitboard}
 use Rattle.squares.specs.declared.bitboard.Direction.the-variants.{Down, Up, Left, Right}
 

@@ -1,11 +1,10 @@
 -- Which numbers are no kind, no colour and no piece. The rest of what is said of kinds is read off their table, kind by kind.
-use mathlib.Core.Path.{_≡_, refl, sym, _∙_}
-use mathlib.Core.Bool.{Bool, true, false, _&&_, _||_, cond}
+use mathlib.Core.Path.{_≡_, refl}
+use mathlib.Core.Bool.{true, false}
 use mathlib.Core.Logic.{inl, inr}
 use mathlib.Core.List.{[], _∷_}
-use Prim.Native.Nat.{ℕ, zero, suc, _+_, _-_, _≤_, _<_}
+use Prim.Native.Nat.{ℕ, zero, suc, _-_, _≤_, _<_}
 use native.Mathlib.Omega.{arith}
-use lib.Dec.{eqb, leb}
 use types.Run.{OneOf}
 use borrow.Author.Tests.{le-leb, lt-leb, ne-eqb}
 use Rattle.squares.specs.Kinds.{goodKind, goodColour, kindOf, goodPiece, goodCell}

@@ -1,26 +1,26 @@
 -- The words of a shifted set, for each of the four bodies and every distance.
-use mathlib.Core.Path.{_≡_, refl, sym, ap, ap₂, _∙_}
+use mathlib.Core.Path.{_≡_, sym, ap, ap₂, _∙_}
 use Prim.Native.Nat.{ℕ, _+_, _-_, _*_, _/_, _%_, _^_, _≤_, _<_}
-use mathlib.Core.Bool.{Bool, true, false, _&&_, _||_, Bool·beq, and-true, and-false, or-false}
-use mathlib.Core.Logic.{_⊎_, ⊎-elim}
+use mathlib.Core.Bool.{Bool, false, _&&_, _||_, Bool·beq, and-true, and-false, or-false}
+use mathlib.Core.Logic.{⊎-elim}
 use native.Mathlib.Omega.{arith}
 use lib.Dec.{leb, ltb, leb→le}
-use lib.Bits.{bitAnd, bitOr}
+use lib.Bits.{bitAnd, bitOr, mask-lt}
 use borrow.Author.Tests.{le-leb, lt-leb, lt-ltb, le-ltb}
 use Rattle.squares.specs.Bit.{odd, bit}
 use Rattle.squares.specs.Board.{onSide, fileOf, rankOf, squareAt, fileStep, rankStep, opposite, step}
 use Rattle.squares.specs.Sets.{has, setOf, emptyS, shiftS}
-use Rattle.squares.specs.Answers.{SetValue, setIf, shiftAnswer}
+use Rattle.squares.specs.Answers.{shiftAnswer}
 use Rattle.squares.specs.declared.bitboard.Bitboard.{Bitboard}
 use Rattle.squares.specs.declared.bitboard.Direction.{Direction}
 use Rattle.squares.specs.declared.bitboard.Direction.the-variants.{Down, Up, Left, Right}
 use Rattle.squares.proofs.Bits.{bit-and, bit-or, bit-shl, bit-shr, bit-mod, bit-high, bit-of-zero}
 use Rattle.squares.proofs.Steps.{board-on, board-zero, side-on, side-low, side-high, at-on, at-off}
-use Rattle.squares.proofs.Members.{has-lo, has-hi, has-off, by-words, le-or-lt}
+use Rattle.squares.proofs.Members.{has-lo, has-hi, has-off, has-masked, cleaned, by-words, le-or-lt}
 use Rattle.squares.proofs.Tests.{all, all-at, beq-eq}
 
--- ---- the answer
-pub shift-good : (dir : Direction) (d : ℕ) (s : Bitboard) → d ≤ 9 → record { number = 0; set = shiftS dir d s } ≡ shiftAnswer dir d s
+-- ---- the answer to a good and to a bad distance
+shift-good : (dir : Direction) (d : ℕ) (s : Bitboard) → d ≤ 9 → record { number = 0; set = shiftS dir d s } ≡ shiftAnswer dir d s
 unfolding shiftAnswer
 shift-good dir d s h = rw (le-leb d 9 h)
 
@@ -28,10 +28,11 @@ pub shift-bad : (dir : Direction) (d : ℕ) (s : Bitboard) → 9 < d → record 
 unfolding shiftAnswer
 shift-bad dir d s h = rw (lt-leb d 9 h)
 
--- a shift is a function of the members
-pub shift-cong : (dir : Direction) (d : ℕ) (r s : Bitboard) → has r ≡ has s → shiftS dir d r ≡ shiftS dir d s
+-- the stray bits make no difference
+shifted : (dir : Direction) (d : ℕ) (s : Bitboard) {r : Bitboard} → d ≤ 9 → r ≡ shiftS dir d (cleaned s) → record { number = 0; set = r } ≡ shiftAnswer dir d s
 unfolding shiftS
-shift-cong dir d r s e = ap (λ (f : ℕ → Bool). setOf (λ n. f (step 9 (opposite dir) d n))) e
+shifted dir d s h e =
+    rw (e ∙ ap (λ (f : ℕ → Bool). setOf (λ n. f (step 9 (opposite dir) d n))) (has-masked s)) (shift-good dir d s h)
 
 -- ---- steps on the board of nine, as sums of square numbers
 at-nine : (f r : ℕ) → 1 ≤ f → f ≤ 9 → 1 ≤ r → r ≤ 9 → squareAt 9 f r ≡ 9 * f - 9 + r
@@ -80,10 +81,10 @@ has-zero : (s : Bitboard) → has s 0 ≡ false
 has-zero s = has-off s 0 (board-zero 9)
 
 -- ---- the masks of the ranks, each by one test that is computed
-abbrev downMask : ℕ → ℕ
+abbrev pub downMask : ℕ → ℕ
 downMask d = 0x8040_2010_0804_0200 - 0x8040_2010_0804_0200 / 2 ^ (9 - d)
 
-abbrev upMask : ℕ → ℕ
+abbrev pub upMask : ℕ → ℕ
 upMask d = (0x40_2010_0804_0201 * 2 ^ (9 - d)) % 2 ^ 64 - 0x40_2010_0804_0201
 
 abbrev downRight : ℕ → ℕ → Bool
@@ -129,20 +130,27 @@ module _ (s : Bitboard) (k m x : ℕ) (fits : k + m ≤ 9) (reads : (i : ℕ) �
       rw (lt-ltb (i % 9 + d) 9 p, step-down d (9 * k + 1 + i) (omega arith) (omega arith) (omega arith), e) (and-true (bit (i + d) x) ∙ sym (reads (i + d) (omega arith))))
       (le-or-lt 9 (i % 9 + d))
 
-pub down-words : (s : Bitboard) (d : ℕ) → d ≤ 9
-    → setOf (has (record { lo = bitAnd ((s .lo * 2 ^ d) % 2 ^ 64) (downMask d); hi = bitAnd ((s .hi * 2 ^ d) % 2 ^ 64) (downMask d) })) ≡ shiftS Down d s
+pub down-answer : (s : Bitboard) (d : ℕ) {r : Bitboard} → d ≤ 9
+    → r ≡ setOf (has (record { lo = bitAnd ((s .lo * 2 ^ d) % 2 ^ 64) (downMask d); hi = bitAnd ((s .hi * 2 ^ d) % 2 ^ 64) (downMask d) }))
+    → record { number = 0; set = r } ≡ shiftAnswer Down d s
 unfolding shiftS
-down-words s d hd =
-    by-words _ (λ n. has s (step 9 Up d n))
+down-answer s d hd e =
+    rw (e
+    ∙ by-words _ (λ n. has s (step 9 Up d n))
     (λ i h. down-word s 0 7 (s .lo) (omega arith) (has-lo s) d i hd h h)
-    (λ i h. down-word s 7 2 (s .hi) (omega arith) (has-hi s) d i hd h (omega arith))
+    (λ i h. down-word s 7 2 (s .hi) (omega arith) (has-hi s) d i hd h (omega arith)))
+    (shift-good Down d s hd)
 
-pub up-words : (s : Bitboard) (d : ℕ) → d ≤ 9 → setOf (has (record { lo = bitAnd (s .lo / 2 ^ d) (upMask d); hi = bitAnd (s .hi / 2 ^ d) (upMask d) })) ≡ shiftS Up d s
+pub up-answer : (s : Bitboard) (d : ℕ) {r : Bitboard} → d ≤ 9
+    → r ≡ setOf (has (record { lo = bitAnd (s .lo / 2 ^ d) (upMask d); hi = bitAnd (s .hi / 2 ^ d) (upMask d) }))
+    → record { number = 0; set = r } ≡ shiftAnswer Up d s
 unfolding shiftS
-up-words s d hd =
-    by-words _ (λ n. has s (step 9 Down d n))
+up-answer s d hd e =
+    rw (e
+    ∙ by-words _ (λ n. has s (step 9 Down d n))
     (λ i h. up-word s 0 7 (s .lo) (omega arith) (has-lo s) d i hd h h)
-    (λ i h. up-word s 7 2 (s .hi) (omega arith) (has-hi s) d i hd h (omega arith))
+    (λ i h. up-word s 7 2 (s .hi) (omega arith) (has-hi s) d i hd h (omega arith)))
+    (shift-good Up d s hd)
 
 -- ---- left and right, across the seam, of words with no stray bit
 module _ (s : Bitboard) (d : ℕ) (hl : s .lo < 2 ^ 63) (hh : s .hi < 2 ^ 18) where
@@ -167,7 +175,7 @@ module _ (s : Bitboard) (d : ℕ) (hl : s .lo < 2 ^ 63) (hh : s .hi < 2 ^ 18) wh
       rw (step-right d (64 + i) (omega arith) (omega arith) (omega arith), e, lt-leb (9 * d) i p) (sym (has-lo s (i + (63 - 9 * d)) (omega arith))))
       (le-or-lt (9 * d) i)
 
-  pub left-words : d ≤ 7 → setOf (has (record { lo = (s .lo * 2 ^ (9 * d)) % 2 ^ 64; hi = bitOr ((s .hi * 2 ^ (9 * d)) % 2 ^ 64) (s .lo / 2 ^ (63 - 9 * d)) })) ≡ shiftS Left d s
+  left-words : d ≤ 7 → setOf (has (record { lo = (s .lo * 2 ^ (9 * d)) % 2 ^ 64; hi = bitOr ((s .hi * 2 ^ (9 * d)) % 2 ^ 64) (s .lo / 2 ^ (63 - 9 * d)) })) ≡ shiftS Left d s
   unfolding shiftS
   left-words k =
       by-words _ (λ n. has s (step 9 Right d n))
@@ -184,7 +192,7 @@ module _ (s : Bitboard) (d : ℕ) (hl : s .lo < 2 ^ 63) (hh : s .hi < 2 ^ 18) wh
       (λ (p : i < 9 * d - 63). rw (step-right-off d (64 + i) (omega arith) (omega arith) (omega arith), lt-leb (9 * d - 63) i p) (sym (has-zero s)))
       (le-or-lt (9 * d - 63) i)
 
-  pub left-far : 7 < d → setOf (has (record { lo = 0; hi = (s .lo * 2 ^ (9 * d - 63)) % 2 ^ 64 })) ≡ shiftS Left d s
+  left-far : 7 < d → setOf (has (record { lo = 0; hi = (s .lo * 2 ^ (9 * d - 63)) % 2 ^ 64 })) ≡ shiftS Left d s
   unfolding shiftS
   left-far k =
       by-words _ (λ n. has s (step 9 Right d n))
@@ -208,7 +216,7 @@ module _ (s : Bitboard) (d : ℕ) (hl : s .lo < 2 ^ 63) (hh : s .hi < 2 ^ 18) wh
       rw (step-left d (1 + i) (omega arith) (omega arith) (omega arith), e, lt-leb (63 - 9 * d) i p) (or-false _ ∙ sym (has-lo s (i + 9 * d) (omega arith))))
       (le-or-lt (63 - 9 * d) i)
 
-  pub right-words : d ≤ 7 → setOf (has (record { lo = bitOr (s .lo / 2 ^ (9 * d)) ((s .hi * 2 ^ (63 - 9 * d)) % 2 ^ 64); hi = s .hi / 2 ^ (9 * d) })) ≡ shiftS Right d s
+  right-words : d ≤ 7 → setOf (has (record { lo = bitOr (s .lo / 2 ^ (9 * d)) ((s .hi * 2 ^ (63 - 9 * d)) % 2 ^ 64); hi = s .hi / 2 ^ (9 * d) })) ≡ shiftS Right d s
   unfolding shiftS
   right-words k =
       by-words _ (λ n. has s (step 9 Left d n))
@@ -216,9 +224,29 @@ module _ (s : Bitboard) (d : ℕ) (hl : s .lo < 2 ^ 63) (hh : s .hi < 2 ^ 18) wh
       ∙ ap₂ (λ (p q : Bool). p || q) (bit-shr i (9 * d) (s .lo)) (bit-shl64 i (63 - 9 * d) (s .hi) (omega arith)) ∙ from-left-lo i h k)
       (λ i h. bit-shr i (9 * d) (s .hi) ∙ from-left-past (64 + i) (i + 9 * d) (omega arith) (omega arith) (omega arith))
 
-  pub right-far : 7 < d → setOf (has (record { lo = s .hi / 2 ^ (9 * d - 63); hi = 0 })) ≡ shiftS Right d s
+  right-far : 7 < d → setOf (has (record { lo = s .hi / 2 ^ (9 * d - 63); hi = 0 })) ≡ shiftS Right d s
   unfolding shiftS
   right-far k =
       by-words _ (λ n. has s (step 9 Left d n))
       (λ i h. bit-shr i (9 * d - 63) (s .hi) ∙ from-left-past (1 + i) (i + (9 * d - 63)) (omega arith) (omega arith) (omega arith))
       (λ i h. bit-of-zero i ∙ sym (ap (has s) (step-left-off d (64 + i) (omega arith) (omega arith) (omega arith)) ∙ has-zero s))
+
+-- ---- their answers, of words with stray bits
+module _ (t : Bitboard) (d : ℕ) where
+  pub left-near : {r : Bitboard} → d ≤ 7
+      → r ≡ setOf (has (record { lo = (cleaned t .lo * 2 ^ (9 * d)) % 2 ^ 64; hi = bitOr ((cleaned t .hi * 2 ^ (9 * d)) % 2 ^ 64) (cleaned t .lo / 2 ^ (63 - 9 * d)) }))
+      → record { number = 0; set = r } ≡ shiftAnswer Left d t
+  left-near h e = shifted Left d t (omega arith) (e ∙ left-words (cleaned t) d (mask-lt (t .lo) 63) (mask-lt (t .hi) 18) h)
+
+  pub left-beyond : {r : Bitboard} → 7 < d → d ≤ 9 → r ≡ setOf (has (record { lo = 0; hi = (cleaned t .lo * 2 ^ (9 * d - 63)) % 2 ^ 64 }))
+      → record { number = 0; set = r } ≡ shiftAnswer Left d t
+  left-beyond l h e = shifted Left d t h (e ∙ left-far (cleaned t) d (mask-lt (t .lo) 63) (mask-lt (t .hi) 18) l)
+
+  pub right-near : {r : Bitboard} → d ≤ 7
+      → r ≡ setOf (has (record { lo = bitOr (cleaned t .lo / 2 ^ (9 * d)) ((cleaned t .hi * 2 ^ (63 - 9 * d)) % 2 ^ 64); hi = cleaned t .hi / 2 ^ (9 * d) }))
+      → record { number = 0; set = r } ≡ shiftAnswer Right d t
+  right-near h e = shifted Right d t (omega arith) (e ∙ right-words (cleaned t) d (mask-lt (t .lo) 63) (mask-lt (t .hi) 18) h)
+
+  pub right-beyond : {r : Bitboard} → 7 < d → d ≤ 9 → r ≡ setOf (has (record { lo = cleaned t .hi / 2 ^ (9 * d - 63); hi = 0 }))
+      → record { number = 0; set = r } ≡ shiftAnswer Right d t
+  right-beyond l h e = shifted Right d t h (e ∙ right-far (cleaned t) d (mask-lt (t .lo) 63) (mask-lt (t .hi) 18) l)

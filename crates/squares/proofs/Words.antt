@@ -1,17 +1,17 @@
 -- The words of the operations that go bit by bit, and of one square alone.
 use mathlib.Core.Path.{_≡_, sym, ap, ap₂, _∙_, subst}
 use Prim.Native.Nat.{ℕ, _+_, _-_, _*_, _/_, _%_, _^_, _≤_, _<_}
-use mathlib.Core.Bool.{Bool, true, false, _&&_, _||_, not, Bool·beq}
+use mathlib.Core.Bool.{Bool, false, _&&_, _||_, not, Bool·beq}
 use native.Mathlib.Nat.{one-mul, mod-eq-of-lt}
 use native.Mathlib.Omega.{arith}
 use lib.Bits.{bitAnd, bitOr, bitXor}
-use lib.Dec.{eqb, leb}
+use lib.Dec.{eqb}
 use lib.Pow.{pow-lt}
 use borrow.Author.Tests.{lt-ltb, le-leb, lt-leb, ne-eqb}
 use Rattle.squares.specs.Bit.{odd, bit}
 use Rattle.squares.specs.Board.{onBoard}
 use Rattle.squares.specs.Sets.{has, setOf, andS, orS, xorS, andnotS, notS, emptyS, singleS}
-use Rattle.squares.specs.Answers.{SetValue, TruthValue, setIf, truthIf, singleAnswer, containsAnswer}
+use Rattle.squares.specs.Answers.{singleAnswer, containsAnswer}
 use Rattle.squares.specs.declared.bitboard.Bitboard.{Bitboard}
 use Rattle.squares.proofs.Bits.{bit-of-zero, bit-and, bit-or, bit-xor, bit-not, bit-pow}
 use Rattle.squares.proofs.Steps.{board-on, eqb-same}

@@ -1,6 +1,6 @@
 -- Sets of squares in two words, and what each operation means on them.
 use Prim.Native.Nat.{ℕ, zero, suc, _+_, _-_, _*_}
-use mathlib.Core.Bool.{Bool, true, false, _&&_, _||_, not, cond, Bool·beq}
+use mathlib.Core.Bool.{Bool, false, _&&_, _||_, not, cond, Bool·beq}
 use lib.Dec.{eqb, leb}
 use Rattle.squares.specs.Bit.{bit, digit, word}
 use Rattle.squares.specs.Board.{onBoard, fileOf, rankOf, turnedTo, opposite, step}

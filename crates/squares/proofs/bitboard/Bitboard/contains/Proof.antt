@@ -4,18 +4,6 @@ use borrow.Author.Needs.{needs}
 use Rattle.squares.proofs.bitboard.Bitboard.contains.Statement.{statement}
 use Rattle.squares.proofs.bitboard.Bitboard.contains.Tie as tie
 
-cast-t6 : tie.Need-cast-t6
-cast-t6 c = search needs
-
-shr-t7 : tie.Need-shr-t7
-shr-t7 c = search needs
-
-cast-t11 : tie.Need-cast-t11
-cast-t11 c = search needs
-
-shr-t12 : tie.Need-shr-t12
-shr-t12 c = search needs
-
 returns : tie.Need-returns
 returns c = let a = c .before .before .before .args in contains-lo (a .self) (a .square) (search needs) (search needs)
 
@@ -30,4 +18,4 @@ returns-4 c = let a = c .before .before .before .args in contains-bad (a .self) 
 
 pub contains-spec : {M : Type 1} → statement M
 contains-spec =
-    tie.close (tie.spec cast-t6 shr-t7 cast-t11 shr-t12 returns returns-2 returns-3 returns-4)
+    tie.close (tie.spec (search needs) (search needs) (search needs) (search needs) returns returns-2 returns-3 returns-4)

@@ -15,32 +15,11 @@ Inv-loop self turned₀ file₀ turned file = (1 ≤ file) × (file ≤ 10) × (
 abbrev μ-loop : tie.MeasureT-loop
 μ-loop self turned₀ file₀ turned file = 10 - file
 
-empty-requires : tie.Need-empty-requires Inv-loop μ-loop
-empty-requires c κs = search needs
-
 loop-holds : tie.Need-loop-holds Inv-loop μ-loop
 loop-holds c = (search needs, search needs, c .empty .ensures ∙ flipped-none (c .before .args .self))
 
-file-pattern-requires : tie.Need-file-pattern-requires Inv-loop μ-loop
-file-pattern-requires c κs = search needs
-
-reversed9-requires : tie.Need-reversed9-requires Inv-loop μ-loop
-reversed9-requires c κs = search needs
-
-sub-file-set : tie.Need-sub-file-set Inv-loop μ-loop
-sub-file-set c = search needs
-
 file-set-requires : tie.Need-file-set-requires Inv-loop μ-loop
 file-set-requires c κs = (search needs, search needs, rw (c .reversed9 .ensures) (reversed-lt _))
-
-or-requires : tie.Need-or-requires Inv-loop μ-loop
-or-requires c κs = search needs
-
-add-file : tie.Need-add-file Inv-loop μ-loop
-add-file c = search needs
-
-loop-less : tie.Need-loop-less Inv-loop μ-loop
-loop-less c = search needs
 
 loop-again : tie.Need-loop-again Inv-loop μ-loop
 loop-again c =
@@ -64,14 +43,14 @@ flip-spec =
     (tie.spec
     Inv-loop
     μ-loop
-    empty-requires
+    (search needs)
     loop-holds
-    file-pattern-requires
-    reversed9-requires
-    sub-file-set
+    (search needs)
+    (search needs)
+    (search needs)
     file-set-requires
-    or-requires
-    add-file
-    loop-less
+    (search needs)
+    (search needs)
+    (search needs)
     loop-again
     returns)

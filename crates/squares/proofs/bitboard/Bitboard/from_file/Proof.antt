@@ -7,9 +7,6 @@ use Rattle.squares.proofs.bitboard.Bitboard.from_file.Tie as tie
 returns : tie.Need-returns
 returns c = let a = c .before .args in file-bad-pattern (a .file) (a .pattern) (search needs)
 
-file-set-requires : tie.Need-file-set-requires
-file-set-requires c κs = search needs
-
 returns-2 : tie.Need-returns-2
 returns-2 c = let a = c .before .before .before .before .args in rw (c .file-set .ensures) (file-good (a .file) (a .pattern) (search needs) (search needs) (search needs))
 
@@ -20,4 +17,4 @@ returns-4 : tie.Need-returns-4
 returns-4 c = let a = c .before .before .before .args in file-bad (a .file) (a .pattern) (side-high 9 (a .file) (search needs) (search needs))
 
 pub from-file-spec : {M : Type 1} → statement M
-from-file-spec = tie.close (tie.spec returns file-set-requires returns-2 returns-3 returns-4)
+from-file-spec = tie.close (tie.spec returns (search needs) returns-2 returns-3 returns-4)

@@ -4,11 +4,8 @@ use borrow.Author.Needs.{needs}
 use Rattle.squares.proofs.bitboard.Bitboard.not.Statement.{statement}
 use Rattle.squares.proofs.bitboard.Bitboard.not.Tie as tie
 
-clean-requires : tie.Need-clean-requires
-clean-requires c κs = search needs
-
 returns : tie.Need-returns
 returns c = c .clean .ensures ∙ not-words (c .before .before .before .args .self) (search needs) (search needs)
 
 pub not-spec : {M : Type 1} → statement M
-not-spec = tie.close (tie.spec clean-requires returns)
+not-spec = tie.close (tie.spec (search needs) returns)

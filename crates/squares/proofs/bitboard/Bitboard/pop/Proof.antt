@@ -5,7 +5,7 @@ use lib.Bits.{bitAnd, mask-lt}
 use lib.Count.{trailing-le}
 use Rattle.squares.specs.Answers.{popAnswer}
 use Rattle.squares.specs.declared.bitboard.Bitboard.{Bitboard}
-use Rattle.squares.proofs.Members.{has-masked, cleaned}
+use Rattle.squares.proofs.Members.{has-masked}
 use Rattle.squares.proofs.Lowest.{pop-lo, pop-hi, pop-none, pop-cong}
 use borrow.Author.Needs.{needs}
 use Rattle.squares.proofs.bitboard.Bitboard.pop.Statement.{statement}
@@ -13,9 +13,6 @@ use Rattle.squares.proofs.bitboard.Bitboard.pop.Tie as tie
 
 add-square : tie.Need-add-square
 add-square c = record { fits = omega (arith, trailing-le 64 (bitAnd (c .before .before .before .args .self .lo) 0x7fff_ffff_ffff_ffff)) }
-
-wrapping-sub-u64-requires : tie.Need-wrapping-sub-u64-requires
-wrapping-sub-u64-requires c κs = search needs
 
 cast-t11 : tie.Need-cast-t11
 cast-t11 c = record { fits = omega (arith, trailing-le 64 (bitAnd (c .before .before .before .before .args .self .lo) 0x7fff_ffff_ffff_ffff)) }
@@ -30,9 +27,6 @@ returns c =
 
 add-square-2 : tie.Need-add-square-2
 add-square-2 c = record { fits = omega (arith, trailing-le 64 (bitAnd (c .before .before .before .before .args .self .hi) 0x3_ffff)) }
-
-wrapping-sub-u64-requires-2 : tie.Need-wrapping-sub-u64-requires-2
-wrapping-sub-u64-requires-2 c κs = search needs
 
 cast-t15 : tie.Need-cast-t15
 cast-t15 c = record { fits = omega (arith, trailing-le 64 (bitAnd (c .before .before .before .before .before .args .self .hi) 0x3_ffff)) }
@@ -58,11 +52,11 @@ pop-spec =
     tie.close
     (tie.spec
     add-square
-    wrapping-sub-u64-requires
+    (search needs)
     cast-t11
     returns
     add-square-2
-    wrapping-sub-u64-requires-2
+    (search needs)
     cast-t15
     returns-2
     returns-3)

@@ -29,12 +29,6 @@ mul-turned c = let l = c .before .loop in omega (arith, l .inv .2, small (c .bef
 add-turned : tie.Need-add-turned Inv-loop μ-loop
 add-turned c = let l = c .before .loop in omega (arith, l .inv .2, small (c .before .before .args .pattern) (l .i) (l .inv .0))
 
-add-i : tie.Need-add-i Inv-loop μ-loop
-add-i c = search needs
-
-loop-less : tie.Need-loop-less Inv-loop μ-loop
-loop-less c = search needs
-
 loop-again : tie.Need-loop-again Inv-loop μ-loop
 loop-again c =
     let l = c .before .loop in
@@ -54,4 +48,4 @@ returns c =
 pub reversed9-spec : {M : Type 1} → statement M
 reversed9-spec =
     tie.close
-    (tie.spec Inv-loop μ-loop loop-holds mul-turned add-turned add-i loop-less loop-again returns)
+    (tie.spec Inv-loop μ-loop loop-holds mul-turned add-turned (search needs) (search needs) loop-again returns)

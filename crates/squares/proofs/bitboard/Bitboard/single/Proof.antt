@@ -5,18 +5,6 @@ use borrow.Author.Needs.{needs}
 use Rattle.squares.proofs.bitboard.Bitboard.single.Statement.{statement}
 use Rattle.squares.proofs.bitboard.Bitboard.single.Tie as tie
 
-cast-t5 : tie.Need-cast-t5
-cast-t5 c = search needs
-
-shl-t6 : tie.Need-shl-t6
-shl-t6 c = search needs
-
-cast-t9 : tie.Need-cast-t9
-cast-t9 c = search needs
-
-shl-t10 : tie.Need-shl-t10
-shl-t10 c = search needs
-
 returns : tie.Need-returns
 returns c = let n : ℕ = c .before .before .args .square in rw (single-lo n (search needs) (search needs)) (single-good n (search needs) (search needs))
 
@@ -31,4 +19,4 @@ returns-4 c = let n : ℕ = c .before .before .before .args .square in single-ba
 
 pub single-spec : {M : Type 1} → statement M
 single-spec =
-    tie.close (tie.spec cast-t5 shl-t6 cast-t9 shl-t10 returns returns-2 returns-3 returns-4)
+    tie.close (tie.spec (search needs) (search needs) (search needs) (search needs) returns returns-2 returns-3 returns-4)

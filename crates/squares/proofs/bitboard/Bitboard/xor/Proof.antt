@@ -4,11 +4,8 @@ use borrow.Author.Needs.{needs}
 use Rattle.squares.proofs.bitboard.Bitboard.xor.Statement.{statement}
 use Rattle.squares.proofs.bitboard.Bitboard.xor.Tie as tie
 
-clean-requires : tie.Need-clean-requires
-clean-requires c κs = search needs
-
 returns : tie.Need-returns
 returns c = c .clean .ensures ∙ xor-words (c .before .before .before .before .before .args .self) (c .before .before .before .before .before .args .other)
 
 pub xor-spec : {M : Type 1} → statement M
-xor-spec = tie.close (tie.spec clean-requires returns)
+xor-spec = tie.close (tie.spec (search needs) returns)

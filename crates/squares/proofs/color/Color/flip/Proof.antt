@@ -9,9 +9,6 @@ use borrow.Author.Needs.{needs}
 use Rattle.squares.proofs.color.Color.flip.Statement.{statement}
 use Rattle.squares.proofs.color.Color.flip.Tie as tie
 
-sub-t4 : tie.Need-sub-t4
-sub-t4 c = search needs
-
 returns : tie.Need-returns
 unfolding otherColourAnswer otherColour goodColour
 returns c = rows-number (λ k. record { number = 0; value = 3 - k }) otherColourAnswer 1 2 tt (c .before .before .args .color) (omega arith) (omega arith)
@@ -25,4 +22,4 @@ unfolding otherColourAnswer
 returns-3 c = rw (colour-high (c .before .before .args .color) (omega arith))
 
 pub flip-spec : {M : Type 1} → statement M
-flip-spec = tie.close (tie.spec sub-t4 returns returns-2 returns-3)
+flip-spec = tie.close (tie.spec (search needs) returns returns-2 returns-3)

@@ -9,9 +9,6 @@ use borrow.Author.Needs.{needs}
 use Rattle.squares.proofs.piece.Piece.kind.Statement.{statement}
 use Rattle.squares.proofs.piece.Piece.kind.Tie as tie
 
-sub-t4 : tie.Need-sub-t4
-sub-t4 c = search needs
-
 returns : tie.Need-returns
 unfolding kindAnswer goodPiece kindOf goodKind
 returns c = rows-number (λ k. record { number = 0; value = k }) kindAnswer 1 14 tt (c .before .before .args .piece) (omega arith) (omega arith)
@@ -33,4 +30,4 @@ unfolding kindAnswer
 returns-5 c = rw (piece-high (c .before .before .before .before .args .piece) (omega arith))
 
 pub kind-spec : {M : Type 1} → statement M
-kind-spec = tie.close (tie.spec sub-t4 returns returns-2 returns-3 returns-4 returns-5)
+kind-spec = tie.close (tie.spec (search needs) returns returns-2 returns-3 returns-4 returns-5)

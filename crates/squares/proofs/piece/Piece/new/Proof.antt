@@ -8,9 +8,6 @@ use borrow.Author.Needs.{needs}
 use Rattle.squares.proofs.piece.Piece.new.Statement.{statement}
 use Rattle.squares.proofs.piece.Piece.new.Tie as tie
 
-add-t6 : tie.Need-add-t6
-add-t6 c = search needs
-
 returns : tie.Need-returns
 unfolding pieceAnswer pieceOf goodColour
 returns c = rw (c .match .keys1, kind-good (c .before .before .before .args .kind) (omega arith) (omega arith))
@@ -32,4 +29,4 @@ unfolding pieceAnswer
 returns-5 c = rw (kind-high (c .before .before .args .kind) (omega arith))
 
 pub new-spec : {M : Type 1} → statement M
-new-spec = tie.close (tie.spec add-t6 returns returns-2 returns-3 returns-4 returns-5)
+new-spec = tie.close (tie.spec (search needs) returns returns-2 returns-3 returns-4 returns-5)

@@ -12,18 +12,6 @@ use borrow.Author.Needs.{needs}
 use Rattle.squares.proofs.piece.Piece.promote.Statement.{statement}
 use Rattle.squares.proofs.piece.Piece.promote.Tie as tie
 
-add-t4 : tie.Need-add-t4
-add-t4 c = search needs
-
-add-t5 : tie.Need-add-t5
-add-t5 c = search needs
-
-add-t6 : tie.Need-add-t6
-add-t6 c = search needs
-
-add-t7 : tie.Need-add-t7
-add-t7 c = search needs
-
 returns : tie.Need-returns
 unfolding promotedPieceAnswer promotedPiece pieceOf colourOf kindRow kinds goodPiece kindOf goodKind
 returns c = rows-form (λ k. record { number = 0; found = true; value = k + 8 }) promotedPieceAnswer 1 4 tt (c .before .before .before .args .piece) (omega arith) (omega arith)
@@ -72,10 +60,10 @@ pub promote-spec : {M : Type 1} → statement M
 promote-spec =
     tie.close
     (tie.spec
-    add-t4
-    add-t5
-    add-t6
-    add-t7
+    (search needs)
+    (search needs)
+    (search needs)
+    (search needs)
     returns
     returns-2
     returns-3

@@ -9,18 +9,6 @@ use borrow.Author.Needs.{needs}
 use Rattle.squares.proofs.piece.Piece.unpromote.Statement.{statement}
 use Rattle.squares.proofs.piece.Piece.unpromote.Tie as tie
 
-sub-t4 : tie.Need-sub-t4
-sub-t4 c = search needs
-
-sub-t5 : tie.Need-sub-t5
-sub-t5 c = search needs
-
-sub-t6 : tie.Need-sub-t6
-sub-t6 c = search needs
-
-sub-t7 : tie.Need-sub-t7
-sub-t7 c = search needs
-
 returns : tie.Need-returns
 unfolding unpromotedPieceAnswer unpromotedPiece pieceOf colourOf kindRow kinds goodPiece kindOf goodKind
 returns c = rows-number (λ k. record { number = 0; value = k }) unpromotedPieceAnswer 1 8 tt (c .before .before .args .piece) (omega arith) (omega arith)
@@ -61,10 +49,10 @@ pub unpromote-spec : {M : Type 1} → statement M
 unpromote-spec =
     tie.close
     (tie.spec
-    sub-t4
-    sub-t5
-    sub-t6
-    sub-t7
+    (search needs)
+    (search needs)
+    (search needs)
+    (search needs)
     returns
     returns-2
     returns-3

@@ -12,9 +12,6 @@ use borrow.Author.Needs.{needs}
 use Rattle.squares.proofs.piece_kind.PieceKind.hand_kind.Statement.{statement}
 use Rattle.squares.proofs.piece_kind.PieceKind.hand_kind.Tie as tie
 
-sub-t5 : tie.Need-sub-t5
-sub-t5 c = search needs
-
 returns : tie.Need-returns
 unfolding handKindAnswer handKind goodKind kindRow kinds
 returns c = rw (c .match .keys1)
@@ -41,4 +38,4 @@ returns-6 c = rw (kind-high (c .before .before .before .before .before .args .ki
 
 pub hand-kind-spec : {M : Type 1} → statement M
 hand-kind-spec =
-    tie.close (tie.spec sub-t5 returns returns-2 returns-3 returns-4 returns-5 returns-6)
+    tie.close (tie.spec (search needs) returns returns-2 returns-3 returns-4 returns-5 returns-6)

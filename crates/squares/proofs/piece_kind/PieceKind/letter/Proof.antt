@@ -1,5 +1,5 @@
 -- Each arm is read off the table of kinds.
-use mathlib.Core.Logic.{inl, inr, ⊎-elim}
+use mathlib.Core.Logic.{⊎-elim}
 use Rattle.squares.specs.Kinds.{goodKind, kindRow, kinds}
 use Rattle.squares.specs.Answers.{letterAnswer}
 use Rattle.squares.proofs.Numbers.{kind-none}

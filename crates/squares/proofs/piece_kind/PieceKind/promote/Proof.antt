@@ -12,12 +12,6 @@ use borrow.Author.Needs.{needs}
 use Rattle.squares.proofs.piece_kind.PieceKind.promote.Statement.{statement}
 use Rattle.squares.proofs.piece_kind.PieceKind.promote.Tie as tie
 
-add-t4 : tie.Need-add-t4
-add-t4 c = search needs
-
-add-t5 : tie.Need-add-t5
-add-t5 c = search needs
-
 returns : tie.Need-returns
 unfolding promotedAnswer goodKind kindRow kinds
 returns c = rows-form (λ k. record { number = 0; found = true; value = k + 8 }) promotedAnswer 1 4 tt (c .before .before .before .args .kind) (omega arith) (omega arith)
@@ -44,4 +38,4 @@ returns-6 c = rows-form (λ k. record { number = 0; found = false; value = 0 }) 
 
 pub promote-spec : {M : Type 1} → statement M
 promote-spec =
-    tie.close (tie.spec add-t4 add-t5 returns returns-2 returns-3 returns-4 returns-5 returns-6)
+    tie.close (tie.spec (search needs) (search needs) returns returns-2 returns-3 returns-4 returns-5 returns-6)

@@ -9,12 +9,6 @@ use borrow.Author.Needs.{needs}
 use Rattle.squares.proofs.piece_kind.PieceKind.unpromote.Statement.{statement}
 use Rattle.squares.proofs.piece_kind.PieceKind.unpromote.Tie as tie
 
-sub-t4 : tie.Need-sub-t4
-sub-t4 c = search needs
-
-sub-t5 : tie.Need-sub-t5
-sub-t5 c = search needs
-
 returns : tie.Need-returns
 unfolding unpromotedAnswer goodKind kindRow kinds
 returns c = rows-number (λ k. record { number = 0; value = k }) unpromotedAnswer 1 8 tt (c .before .before .args .kind) (omega arith) (omega arith)
@@ -36,4 +30,4 @@ unfolding unpromotedAnswer
 returns-5 c = rw (kind-high (c .before .before .before .before .args .kind) (omega arith))
 
 pub unpromote-spec : {M : Type 1} → statement M
-unpromote-spec = tie.close (tie.spec sub-t4 sub-t5 returns returns-2 returns-3 returns-4 returns-5)
+unpromote-spec = tie.close (tie.spec (search needs) (search needs) returns returns-2 returns-3 returns-4 returns-5)

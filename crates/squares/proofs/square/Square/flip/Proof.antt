@@ -7,9 +7,6 @@ use borrow.Author.Needs.{needs}
 use Rattle.squares.proofs.square.Square.flip.Statement.{statement}
 use Rattle.squares.proofs.square.Square.flip.Tie as tie
 
-sub-t4 : tie.Need-sub-t4
-sub-t4 c = search needs
-
 returns : tie.Need-returns
 unfolding turnedAnswer turnedTo
 returns c = rw (board-on 9 (c .before .before .args .square) (omega arith) (omega arith))
@@ -23,4 +20,4 @@ unfolding turnedAnswer
 returns-3 c = rw (board-high 9 (c .before .before .args .square) (omega arith) (omega arith))
 
 pub flip-spec : {M : Type 1} → statement M
-flip-spec = tie.close (tie.spec sub-t4 returns returns-2 returns-3)
+flip-spec = tie.close (tie.spec (search needs) returns returns-2 returns-3)

@@ -8,15 +8,6 @@ use borrow.Author.Needs.{needs}
 use Rattle.squares.proofs.square.Square.new.Statement.{statement}
 use Rattle.squares.proofs.square.Square.new.Tie as tie
 
-mul-t7 : tie.Need-mul-t7
-mul-t7 c = search needs
-
-sub-t8 : tie.Need-sub-t8
-sub-t8 c = search needs
-
-add-t9 : tie.Need-add-t9
-add-t9 c = search needs
-
 returns : tie.Need-returns
 unfolding squareAnswer squareAt
 returns c = let a = c .before .before .before .before .args in rw (side-on 9 (a .file) (omega arith) (omega arith), side-on 9 (a .rank) (omega arith) (omega arith))
@@ -39,4 +30,4 @@ returns-5 c = rw (side-high 9 (c .before .before .args .file) (omega arith) (ome
 
 pub new-spec : {M : Type 1} → statement M
 new-spec =
-    tie.close (tie.spec mul-t7 sub-t8 add-t9 returns returns-2 returns-3 returns-4 returns-5)
+    tie.close (tie.spec (search needs) (search needs) (search needs) returns returns-2 returns-3 returns-4 returns-5)

@@ -7,9 +7,6 @@ use borrow.Author.Needs.{needs}
 use Rattle.squares.proofs.square.Square.rank.Statement.{statement}
 use Rattle.squares.proofs.square.Square.rank.Tie as tie
 
-add-t6 : tie.Need-add-t6
-add-t6 c = search needs
-
 returns : tie.Need-returns
 unfolding rankAnswer rankOf
 returns c = rw (board-on 9 (c .before .before .args .square) (omega arith) (omega arith))
@@ -23,4 +20,4 @@ unfolding rankAnswer
 returns-3 c = rw (board-high 9 (c .before .before .args .square) (omega arith) (omega arith))
 
 pub rank-spec : {M : Type 1} → statement M
-rank-spec = tie.close (tie.spec add-t6 returns returns-2 returns-3)
+rank-spec = tie.close (tie.spec (search needs) returns returns-2 returns-3)
