@@ -1,7 +1,7 @@
 -- The count of a set's members is the count of its words' bits.
 use mathlib.Core.Path.{_≡_, refl, sym, ap, ap₂, _∙_}
 use Prim.Native.Nat.{ℕ, zero, suc, _+_, _/_, _%_, _^_, _<_}
-use mathlib.Core.Bool.{Bool}
+use mathlib.Core.Bool.{Bool, _&&_}
 use native.Mathlib.Nat.{pow-suc, zero-add, suc-add, add-zero, add-suc, add-assoc, mod-lt}
 use native.Mathlib.Omega.{arith}
 use lib.Dec.{eqb}
@@ -9,10 +9,11 @@ use lib.Arith.{lt-one}
 use lib.Bits.{bitAnd, mask-lt}
 use lib.Count.{ones, ones-step}
 use Rattle.squares.specs.Bit.{odd, bit, digit}
-use Rattle.squares.specs.Sets.{has, countOf, size}
+use Rattle.squares.specs.Sets.{has, setOf, countOf, size}
 use Rattle.squares.specs.declared.bitboard.Bitboard.{Bitboard}
 use Rattle.squares.proofs.Bits.{bit-zero, bit-suc}
-use Rattle.squares.proofs.Members.{has-lo, has-hi, has-masked}
+use Rattle.squares.proofs.Members.{has-lo, has-hi, has-masked, has-setOf}
+use Rattle.squares.proofs.Steps.{board-on}
 
 pub count-same : (f g : ℕ → Bool) (i j k : ℕ) → ((e : ℕ) → e < k → f (i + e) ≡ g (j + e)) → countOf f i k ≡ countOf g j k
 unfolding countOf
@@ -20,6 +21,14 @@ count-same f g i j zero h = refl
 count-same f g i j (suc k) h =
     ap₂ (λ (b : Bool) (m : ℕ). digit b + m) (ap f (sym (add-zero i)) ∙ h 0 (omega arith) ∙ ap g (add-zero j))
     (count-same f g (suc i) (suc j) k (λ e l. ap f (suc-add i e ∙ sym (add-suc i e)) ∙ h (suc e) (omega arith) ∙ ap g (add-suc j e ∙ sym (suc-add j e))))
+
+pub count-sum : (f g h : ℕ → Bool) (i k : ℕ) → ((e : ℕ) → e < k → digit (f (i + e)) ≡ digit (g (i + e)) + digit (h (i + e))) → countOf f i k ≡ countOf g i k + countOf h i k
+unfolding countOf
+count-sum f g h i zero q = refl
+count-sum f g h i (suc k) q =
+    let here : digit (f i) ≡ digit (g i) + digit (h i) = ap (λ (m : ℕ). digit (f m)) (sym (add-zero i)) ∙ q 0 (omega arith) ∙ ap (λ (m : ℕ). digit (g m) + digit (h m)) (add-zero i) in
+    let rest = count-sum f g h (suc i) k (λ e l. ap (λ (m : ℕ). digit (f m)) (suc-add i e ∙ sym (add-suc i e)) ∙ q (suc e) (omega arith) ∙ ap (λ (m : ℕ). digit (g m) + digit (h m)) (add-suc i e ∙ sym (suc-add i e))) in
+    omega arith
 
 pub count-add : (f : ℕ → Bool) (i j k : ℕ) → countOf f i (j + k) ≡ countOf f i j + countOf f (i + j) k
 unfolding countOf
@@ -56,3 +65,9 @@ clean-count x y hx hy =
 pub count-words : (s : Bitboard) → ones (bitAnd (s .lo) 0x7fff_ffff_ffff_ffff) + ones (bitAnd (s .hi) 0x3_ffff) ≡ size s
 unfolding size
 count-words s = clean-count _ _ (mask-lt (s .lo) 63) (mask-lt (s .hi) 18) ∙ ap (λ (f : ℕ → Bool). countOf f 1 81) (has-masked s)
+
+-- the size of a set that is given by a rule
+pub size-rule : (f : ℕ → Bool) → size (setOf f) ≡ countOf f 1 81
+unfolding size
+size-rule f =
+    count-same (has (setOf f)) f 1 1 81 (λ e l. has-setOf f (1 + e) ∙ ap (λ (t : Bool). t && f (1 + e)) (board-on 9 (1 + e) (omega arith) (omega arith)))

@@ -8,17 +8,21 @@ use native.Mathlib.Omega.{arith}
 use lib.Dec.{eqb}
 use Rattle.squares.specs.Board.{onBoard, turnedTo, opposite, step}
 use Rattle.squares.specs.Sets.{has, setOf, emptyS, singleS, orS, andS, xorS, andnotS, notS, flipS, withoutS, shiftS}
-use Rattle.squares.specs.Answers.{SetValue, setIf, singleAnswer}
+use Rattle.squares.specs.Answers.{SetValue, TruthValue, setIf, truthIf, singleAnswer, containsAnswer, NumberValue, FormValue, numberIf, formIf, limitAnswer, promotedAnswer}
+use Rattle.squares.specs.Kinds.{goodKind, kindRow}
 use Rattle.squares.specs.declared.bitboard.Bitboard.{Bitboard}
 use Rattle.squares.specs.declared.bitboard.Direction.{Direction}
-use Rattle.squares.proofs.Steps.{decided}
-pub use Rattle.squares.proofs.Steps.{board-range, board-on, board-zero, board-low, board-high, side-range, side-on, side-low, side-high}
+pub use Rattle.squares.proofs.Steps.{both, decided, eqb-same, board-range, board-on, board-zero, board-low, board-high, side-range, side-on, side-low, side-high}
 pub use Rattle.squares.proofs.Steps.{file-side, rank-side, at-back, at-on, at-off, at-board, at-file, at-rank}
 pub use Rattle.squares.proofs.Steps.{step-off, step-zero, step-none, step-long, step-add, step-back, step-iff}
-pub use Rattle.squares.proofs.Members.{has-setOf, setOf-cong, setOf-has, has-off, has-on, has-emptyS}
-pub use Rattle.squares.proofs.Counts.{count-same, count-add}
-pub use Rattle.squares.proofs.Least.{First, smallest-is, smallest-at, smallest-none, size-without, size-none, size-le, empty-none, empty-some, empty-has}
+pub use Rattle.squares.proofs.Members.{le-or-lt, has-setOf, setOf-cong, setOf-has, clean-setOf, clean-has, has-off, has-on, has-emptyS}
+pub use Rattle.squares.proofs.Tests.{all, all-at}
+pub use Rattle.squares.proofs.Counts.{count-same, count-add, count-sum, size-rule}
+pub use Rattle.squares.proofs.Least.{First, smallest-is, smallest-at, smallest-none, size-without, count-none, size-none, size-le, empty-size, empty-none, empty-some, empty-has}
 pub use Rattle.squares.proofs.Least.{Popped, pop-square, pop-nothing}
+pub use Rattle.squares.proofs.Numbers.{kind-range, colour-range, colour-good, colour-low, colour-high, cell-piece, cell-zero, piece-cell, piece-kind, piece-low-bound}
+pub use Rattle.squares.proofs.Numbers.{piece-low, piece-gap, piece-high, piece-black, piece-white, row-bad, promoted-small, kind-good, kind-low, kind-high}
+pub use Rattle.squares.proofs.Numbers.{black-kind, white-kind, black-colour, white-colour, empty-colour}
 pub use Rattle.squares.proofs.Unique.{one-number, one-form, one-set, one-truth, one-pattern, one-pop}
 
 -- ---- the members of each operation's set
@@ -103,6 +107,14 @@ rules op f g =
     setOf-cong (λ n. op (has (setOf f) n) (has (setOf g) n)) (λ n. op (f n) (g n))
     (λ n o. ap₂ op (has-setOf f n ∙ ap (λ (t : Bool). t && f n) o) (has-setOf g n ∙ ap (λ (t : Bool). t && g n) o))
 
+pub empty-rule : emptyS ≡ setOf (λ n. false)
+unfolding emptyS
+empty-rule = refl
+
+pub single-rule : (m : ℕ) → singleS m ≡ setOf (eqb m)
+unfolding singleS
+single-rule m = refl
+
 pub or-rules : (f g : ℕ → Bool) → orS (setOf f) (setOf g) ≡ setOf (λ n. f n || g n)
 unfolding orS
 or-rules = rules (λ p q. p || q)
@@ -149,3 +161,59 @@ single-refused n s = refused (onBoard 9 n) s (singleS n)
     refused : (t : Bool) (u v : Bitboard) → record { number = 2; set = u } ≡ setIf t v → t ≡ false
     refused true u v q = let z : _≡_ {A = ℕ} 2 0 = ap (λ (x : SetValue). x .number) q in absurd (omega arith)
     refused false u v q = refl
+
+pub contains-told : (s : Bitboard) (n : ℕ) (b : Bool) → record { number = 0; truth = b } ≡ containsAnswer s n → b ≡ has s n
+unfolding containsAnswer
+contains-told s n b = told (onBoard 9 n) (has s n)
+  where
+    told : (t h : Bool) → record { number = 0; truth = b } ≡ truthIf t h → b ≡ h
+    told true h q = ap (λ (x : TruthValue). x .truth) q
+    told false h q = let z : _≡_ {A = ℕ} 0 2 = ap (λ (x : TruthValue). x .number) q in absurd (omega arith)
+
+pub contains-refused : (s : Bitboard) (n : ℕ) (b : Bool) → record { number = 2; truth = b } ≡ containsAnswer s n → has s n ≡ false
+unfolding containsAnswer
+contains-refused s n b e = has-off s n (refused (onBoard 9 n) (has s n) e)
+  where
+    refused : (t h : Bool) → record { number = 2; truth = b } ≡ truthIf t h → t ≡ false
+    refused true h q = let z : _≡_ {A = ℕ} 2 0 = ap (λ (x : TruthValue). x .number) q in absurd (omega arith)
+    refused false h q = refl
+
+pub number-told : (t : Bool) (v w : ℕ) → record { number = 0; value = v } ≡ numberIf t w → (t ≡ true) × (v ≡ w)
+number-told true v w q = (refl, ap (λ (x : NumberValue). x .value) q)
+number-told false v w q = let z : _≡_ {A = ℕ} 0 2 = ap (λ (x : NumberValue). x .number) q in absurd (omega arith)
+
+pub number-refused : (t : Bool) (v w : ℕ) → record { number = 2; value = v } ≡ numberIf t w → t ≡ false
+number-refused true v w q = let z : _≡_ {A = ℕ} 2 0 = ap (λ (x : NumberValue). x .number) q in absurd (omega arith)
+number-refused false v w q = refl
+
+pub limit-told : (k v : ℕ) → record { number = 0; value = v } ≡ limitAnswer k → v ≡ kindRow k .limit
+unfolding limitAnswer
+limit-told k v q = number-told (goodKind k) v (kindRow k .limit) q .1
+
+pub limit-refused : (k v : ℕ) → record { number = 2; value = v } ≡ limitAnswer k → kindRow k .limit ≡ 0
+unfolding limitAnswer
+limit-refused k v q = row-bad k (number-refused (goodKind k) v (kindRow k .limit) q) .2
+
+pub promoted-told : (k v : ℕ) → record { number = 0; found = true; value = v } ≡ promotedAnswer k → v ≡ kindRow k .promoted
+unfolding promotedAnswer
+promoted-told k v = told (goodKind k) (kindRow k .promoted)
+  where
+    told : (t : Bool) (w : ℕ) → record { number = 0; found = true; value = v } ≡ formIf t w → v ≡ w
+    told true w q = ap (λ (x : FormValue). x .value) q
+    told false w q = let z : _≡_ {A = ℕ} 0 2 = ap (λ (x : FormValue). x .number) q in absurd (omega arith)
+
+pub promoted-none : (k : ℕ) → record { number = 0; found = false; value = 0 } ≡ promotedAnswer k → kindRow k .promoted ≡ 0
+unfolding promotedAnswer
+promoted-none k = told (goodKind k) (kindRow k .promoted)
+  where
+    told : (t : Bool) (w : ℕ) → record { number = 0; found = false; value = 0 } ≡ formIf t w → w ≡ 0
+    told true w q = sym (ap (λ (x : FormValue). x .value) q)
+    told false w q = let z : _≡_ {A = ℕ} 0 2 = ap (λ (x : FormValue). x .number) q in absurd (omega arith)
+
+pub promoted-refused : (k : ℕ) → record { number = 2; found = false; value = 0 } ≡ promotedAnswer k → kindRow k .promoted ≡ 0
+unfolding promotedAnswer
+promoted-refused k q = row-bad k (refused (goodKind k) (kindRow k .promoted) q) .1
+  where
+    refused : (t : Bool) (w : ℕ) → record { number = 2; found = false; value = 0 } ≡ formIf t w → t ≡ false
+    refused true w q = let z : _≡_ {A = ℕ} 2 0 = ap (λ (x : FormValue). x .number) q in absurd (omega arith)
+    refused false w q = refl

@@ -95,7 +95,7 @@ size-without s n l h p =
     inside : (m : ℕ) → onBoard 9 m && (has s m && not (eqb m n)) ≡ has s m && not (eqb m n)
     inside m = sym (and-assoc (onBoard 9 m) (has s m) (not (eqb m n))) ∙ ap (λ (t : Bool). t && not (eqb m n)) (has-on s m)
 
-count-none : (f : ℕ → Bool) (i k : ℕ) → ((m : ℕ) → f m ≡ false) → countOf f i k ≡ 0
+pub count-none : (f : ℕ → Bool) (i k : ℕ) → ((m : ℕ) → f m ≡ false) → countOf f i k ≡ 0
 unfolding countOf digit
 count-none f i zero h = refl
 count-none f i (suc k) h = rw (h i) (ap (λ (c : ℕ). 0 + c) (count-none f (suc i) k h))
@@ -119,6 +119,10 @@ unfolding size
 size-le s = count-le (has s) 1 81
 
 -- ---- the empty set is the one with no square
+pub empty-size : (s : Bitboard) → isEmpty s ≡ eqb (size s) 0
+unfolding isEmpty
+empty-size s = refl
+
 pub empty-none : (s : Bitboard) → ((m : ℕ) → has s m ≡ false) → isEmpty s ≡ true
 unfolding isEmpty
 empty-none s z = eq-eqb (size s) 0 (size-none s z)

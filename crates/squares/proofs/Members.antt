@@ -8,14 +8,14 @@ use native.Mathlib.Decide.{decLe}
 use native.Mathlib.Omega.{arith}
 use native.Mathlib.Numerals.{one-add}
 use lib.Bits.{bitAnd, and-mask, mask-lt}
-use lib.Dec.{leb}
-use borrow.Author.Tests.{lt-ltb, le-leb, lt-leb}
+use lib.Dec.{leb, ltb}
+use borrow.Author.Tests.{lt-ltb, le-leb, lt-leb, ltb-true}
 use Rattle.squares.specs.Bit.{bit, word}
 use Rattle.squares.specs.Board.{onBoard}
-use Rattle.squares.specs.Sets.{has, setOf, emptyS}
+use Rattle.squares.specs.Sets.{has, setOf, clean, emptyS}
 use Rattle.squares.specs.declared.bitboard.Bitboard.{Bitboard}
 use Rattle.squares.proofs.Bits.{bit-of-zero, bit-ext, bit-mod, word-lt, bit-word}
-use Rattle.squares.proofs.Steps.{board-on, board-zero, board-high}
+use Rattle.squares.proofs.Steps.{board-on, board-zero, board-high, both}
 
 -- ---- a Bitboard's members, by word
 pub has-lo : (s : Bitboard) (i : ℕ) → i < 63 → has s (1 + i) ≡ bit i (s .lo)
@@ -139,3 +139,14 @@ has-emptyS n = has-setOf (λ m. false) n ∙ and-false (onBoard 9 n)
 
 pub has-none : (n : ℕ) → has (record { lo = 0; hi = 0 }) n ≡ false
 has-none n = ap (λ (r : Bitboard). has r n) empty-words ∙ has-emptyS n
+
+-- ---- a set has no stray bit, and a clean one is determined by its members
+pub clean-setOf : (f : ℕ → Bool) → clean (setOf f) ≡ true
+unfolding clean setOf
+clean-setOf f = rw (lt-ltb (word f 1 63) (2 ^ 63) (word-lt f 1 63), lt-ltb (word f 64 18) (2 ^ 18) (word-lt f 64 18))
+
+pub clean-has : (s : Bitboard) → clean s ≡ true → setOf (has s) ≡ s
+unfolding clean
+clean-has s e =
+    let p = both (ltb (s .lo) (2 ^ 63)) (ltb (s .hi) (2 ^ 18)) e in
+    setOf-has s (ltb-true (s .lo) (2 ^ 63) (p .0)) (ltb-true (s .hi) (2 ^ 18) (p .1))

@@ -1,13 +1,17 @@
 -- Which numbers are no kind, no colour and no piece. The rest of what is said of kinds is read off their table, kind by kind.
-use mathlib.Core.Path.{_≡_, refl}
-use mathlib.Core.Bool.{true, false}
-use mathlib.Core.Logic.{inl, inr}
+use mathlib.Core.Path.{_≡_, refl, sym, ap, _∙_}
+use mathlib.Core.Bool.{Bool, true, false, _||_, or-true, false≢true}
+use mathlib.Core.Logic.{inl, inr, ⊎-elim}
 use mathlib.Core.List.{[], _∷_}
 use Prim.Native.Nat.{ℕ, zero, suc, _-_, _≤_, _<_}
 use native.Mathlib.Omega.{arith}
+use lib.Dec.{eqb, leb, leb→le}
 use types.Run.{OneOf}
-use borrow.Author.Tests.{le-leb, lt-leb, ne-eqb}
-use Rattle.squares.specs.Kinds.{goodKind, goodColour, kindOf, goodPiece, goodCell}
+use borrow.Author.Tests.{le-leb, lt-leb, ne-eqb, eqb-true}
+use Rattle.squares.specs.Kinds.{kinds, kindRow, goodKind, goodColour, colourOf, kindOf, goodPiece, goodCell}
+use Rattle.squares.proofs.Steps.{in-range, decided}
+use Rattle.squares.proofs.Members.{le-or-lt}
+use Rattle.squares.proofs.Tests.{all-at, rows-truth}
 
 pub kind-good : (k : ℕ) → 1 ≤ k → k < 15 → goodKind k ≡ true
 unfolding goodKind
@@ -41,6 +45,10 @@ kind-none (suc (suc (suc (suc (suc (suc (suc (suc (suc (suc (suc (suc (suc zero)
 kind-none (suc (suc (suc (suc (suc (suc (suc (suc (suc (suc (suc (suc (suc (suc zero)))))))))))))) p l n s g b r q = absurd (r (inr refl))
 kind-none (suc (suc (suc (suc (suc (suc (suc (suc (suc (suc (suc (suc (suc (suc (suc k))))))))))))))) p l n s g b r q = kind-high (suc (suc (suc (suc (suc (suc (suc (suc (suc (suc (suc (suc (suc (suc (suc k))))))))))))))) (omega arith)
 
+pub colour-good : (c : ℕ) → 1 ≤ c → c < 3 → goodColour c ≡ true
+unfolding goodColour
+colour-good c l h = rows-truth goodColour (λ k. true) 1 2 tt c l h
+
 pub colour-low : (c : ℕ) → c < 1 → goodColour c ≡ false
 unfolding goodColour
 colour-low c h = rw (ne-eqb c 1 (λ e. omega arith), ne-eqb c 2 (λ e. omega arith))
@@ -69,3 +77,95 @@ piece-high c h = rw (lt-leb c 16 (omega arith)) (kind-high (c - 16) (omega arith
 pub cell-bad : (c : ℕ) → 1 ≤ c → goodPiece c ≡ false → false ≡ goodCell c
 unfolding goodCell
 cell-bad c l e = rw (ne-eqb c 0 (λ q. omega arith), e)
+
+-- ---- what a piece's number says: Black's up to 16, White's above
+pub cell-piece : (c : ℕ) → goodCell c ≡ true → (c ≡ 0 → ⊥) → goodPiece c ≡ true
+unfolding goodCell
+cell-piece c g d = sym (ap (λ (t : Bool). t || goodPiece c) (ne-eqb c 0 d)) ∙ g
+
+pub cell-zero : goodCell 0 ≡ true
+unfolding goodCell
+cell-zero = refl
+
+pub piece-cell : (c : ℕ) → goodPiece c ≡ true → goodCell c ≡ true
+unfolding goodCell
+piece-cell c g = ap (λ (t : Bool). eqb c 0 || t) g ∙ or-true (eqb c 0)
+
+pub kind-range : (k : ℕ) → goodKind k ≡ true → (1 ≤ k) × (k ≤ 14)
+unfolding goodKind
+kind-range k g = in-range 1 14 k g
+
+pub colour-range : (c : ℕ) → goodColour c ≡ true → (1 ≤ c) × (c ≤ 2)
+unfolding goodColour
+colour-range c g = by (eqb c 1) refl (eqb c 2) refl g
+  where
+    by : (s : Bool) → eqb c 1 ≡ s → (t : Bool) → eqb c 2 ≡ t → s || t ≡ true → (1 ≤ c) × (c ≤ 2)
+    by true e t f q = let z = eqb-true c 1 e in (omega arith, omega arith)
+    by false e true f q = let z = eqb-true c 2 f in (omega arith, omega arith)
+    by false e false f q = absurd (false≢true q)
+
+pub black-kind : (c : ℕ) → c ≤ 16 → kindOf c ≡ c
+unfolding kindOf
+black-kind c h = rw (le-leb c 16 h)
+
+pub white-kind : (c : ℕ) → 16 < c → kindOf c ≡ c - 16
+unfolding kindOf
+white-kind c h = rw (lt-leb c 16 h)
+
+pub black-colour : (c : ℕ) → 1 ≤ c → c ≤ 16 → colourOf c ≡ 1
+unfolding colourOf
+black-colour c l h = rw (ne-eqb c 0 (λ e. omega arith), le-leb c 16 h)
+
+pub white-colour : (c : ℕ) → 16 < c → colourOf c ≡ 2
+unfolding colourOf
+white-colour c h = rw (ne-eqb c 0 (λ e. omega arith), lt-leb c 16 h)
+
+pub empty-colour : colourOf 0 ≡ 0
+unfolding colourOf
+empty-colour = refl
+
+-- a piece's kind is a kind, and a piece is not 0
+pub piece-kind : (c : ℕ) → goodPiece c ≡ true → (1 ≤ kindOf c) × (kindOf c ≤ 14)
+unfolding goodPiece
+piece-kind c g = kind-range (kindOf c) g
+
+pub piece-low-bound : (c : ℕ) → goodPiece c ≡ true → 1 ≤ c
+piece-low-bound c g = ⊎-elim (λ (p : 1 ≤ c). p) (λ (p : c < 1). absurd (false≢true (sym (piece-low c p) ∙ g))) (le-or-lt 1 c)
+
+pub piece-black : (c : ℕ) → 1 ≤ c → c < 15 → goodPiece c ≡ true
+unfolding goodPiece
+piece-black c l h = rw (black-kind c (omega arith)) (kind-good c l h)
+
+pub piece-white : (c : ℕ) → 17 ≤ c → c < 31 → goodPiece c ≡ true
+unfolding goodPiece
+piece-white c l h = rw (white-kind c (omega arith)) (kind-good (c - 16) (omega arith) (omega arith))
+
+-- ---- the rows of numbers that are no kinds
+pub row-bad : (k : ℕ) → goodKind k ≡ false → (kindRow k .unpromoted ≡ 0) × (kindRow k .promoted ≡ 0) × (kindRow k .limit ≡ 0)
+unfolding kindRow kinds goodKind
+row-bad zero e = (refl, refl, refl)
+row-bad (suc zero) e = absurd (false≢true (sym e))
+row-bad (suc (suc zero)) e = absurd (false≢true (sym e))
+row-bad (suc (suc (suc zero))) e = absurd (false≢true (sym e))
+row-bad (suc (suc (suc (suc zero)))) e = absurd (false≢true (sym e))
+row-bad (suc (suc (suc (suc (suc zero))))) e = absurd (false≢true (sym e))
+row-bad (suc (suc (suc (suc (suc (suc zero)))))) e = absurd (false≢true (sym e))
+row-bad (suc (suc (suc (suc (suc (suc (suc zero))))))) e = absurd (false≢true (sym e))
+row-bad (suc (suc (suc (suc (suc (suc (suc (suc zero)))))))) e = absurd (false≢true (sym e))
+row-bad (suc (suc (suc (suc (suc (suc (suc (suc (suc zero))))))))) e = absurd (false≢true (sym e))
+row-bad (suc (suc (suc (suc (suc (suc (suc (suc (suc (suc zero)))))))))) e = absurd (false≢true (sym e))
+row-bad (suc (suc (suc (suc (suc (suc (suc (suc (suc (suc (suc zero))))))))))) e = absurd (false≢true (sym e))
+row-bad (suc (suc (suc (suc (suc (suc (suc (suc (suc (suc (suc (suc zero)))))))))))) e = absurd (false≢true (sym e))
+row-bad (suc (suc (suc (suc (suc (suc (suc (suc (suc (suc (suc (suc (suc zero))))))))))))) e = absurd (false≢true (sym e))
+row-bad (suc (suc (suc (suc (suc (suc (suc (suc (suc (suc (suc (suc (suc (suc zero)))))))))))))) e = absurd (false≢true (sym e))
+row-bad (suc (suc (suc (suc (suc (suc (suc (suc (suc (suc (suc (suc (suc (suc (suc k))))))))))))))) e = (refl, refl, refl)
+
+small : (k : ℕ) → k < 15 → kindRow k .promoted ≤ 14
+unfolding kindRow kinds
+small k h = leb→le _ _ (all-at (λ j. leb (kindRow j .promoted) 14) 15 tt k h)
+
+pub promoted-small : (k : ℕ) → kindRow k .promoted ≤ 14
+promoted-small k = ⊎-elim good (λ b. let z = row-bad k b .1 in omega arith) (decided (goodKind k))
+  where
+    good : goodKind k ≡ true → kindRow k .promoted ≤ 14
+    good g = let r = kind-range k g in small k (omega arith)

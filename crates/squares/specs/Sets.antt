@@ -1,7 +1,7 @@
 -- Sets of squares in two words, and what each operation means on them.
-use Prim.Native.Nat.{ℕ, zero, suc, _+_, _-_, _*_}
+use Prim.Native.Nat.{ℕ, zero, suc, _+_, _-_, _*_, _^_}
 use mathlib.Core.Bool.{Bool, false, _&&_, _||_, not, cond, Bool·beq}
-use lib.Dec.{eqb, leb}
+use lib.Dec.{eqb, leb, ltb}
 use Rattle.squares.specs.Bit.{bit, digit, word}
 use Rattle.squares.specs.Board.{onBoard, fileOf, rankOf, turnedTo, opposite, step}
 use Rattle.squares.specs.declared.bitboard.Bitboard.{Bitboard}
@@ -15,6 +15,10 @@ has s n = onBoard 9 n && cond (leb n 63) (bit (n - 1) (s .lo)) (bit (n - 64) (s 
 -- the set of the squares that pass a test, with every stray bit zero
 unfoldable pub setOf : (ℕ → Bool) → Bitboard
 setOf f = record { lo = word f 1 63; hi = word f 64 18 }
+
+-- "Bit 63 of the first and bits 18 and up of the second are stray": none of them is set
+unfoldable pub clean : Bitboard → Bool
+clean s = ltb (s .lo) (2 ^ 63) && ltb (s .hi) (2 ^ 18)
 
 -- "Empty, single, count, contains, or, and, xor, andnot (in the second, not in the first), not (within the 81)"
 unfoldable pub emptyS : Bitboard

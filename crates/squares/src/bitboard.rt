@@ -10,6 +10,7 @@ use crate::answers::PopAnswer;
 use crate::answers::SetAnswer;
 use crate::answers::TruthAnswer;
 
+#[repr(C)]
 pub struct Bitboard {
     pub lo: u64,
     pub hi: u64,

@@ -1,0 +1,96 @@
+-- Lists of sets compared with one another, and with what stands on a square.
+use mathlib.Core.Path.{_≡_, refl, sym, ap, ap₂, _∙_}
+use Prim.Native.Nat.{ℕ, zero, suc, _+_, _≤_, _<_}
+use mathlib.Core.Bool.{Bool, true, false, _||_, not, Bool·beq, or-true, true≢false, false≢true}
+use mathlib.Core.Logic.{⊎-elim}
+use mathlib.Core.List.{List}
+use native.Mathlib.Omega.{arith}
+use native.Mathlib.Numerals.{add-one}
+use lib.ListN.{length, getD}
+use lib.Seq.{ext-getD}
+use lib.Dec.{eqb}
+use borrow.Author.Tests.{eq-eqb, eqb-true}
+use Rattle.squares.specs.declared.bitboard.Bitboard.{Bitboard}
+use Rattle.squares.specs.Sets.{has, emptyS}
+use Rattle.squares.proofs.Laws.{both, le-or-lt}
+use Rattle.position.specs.Sound.{anyBelow, disagrees}
+use Rattle.position.specs.Inner.{sameWords, Compared}
+use Rattle.position.proofs.Lists.{getD-any}
+
+-- ---- some number below k
+pub any-none : (f : ℕ → Bool) → anyBelow f 0 ≡ false
+unfolding anyBelow
+any-none f = refl
+
+pub any-more : (f : ℕ → Bool) (k : ℕ) → anyBelow f k ≡ false → f k ≡ false → anyBelow f (k + 1) ≡ false
+unfolding anyBelow
+any-more f k a b = rw (add-one, b) a
+
+pub any-at : (f : ℕ → Bool) (k n : ℕ) → k < n → f k ≡ true → anyBelow f n ≡ true
+unfolding anyBelow
+any-at f k zero h e = absurd (omega arith)
+any-at f k (suc n) h e =
+    ⊎-elim (λ (p : n ≤ k). let z : n ≡ k = omega arith in rw (z, e)) (λ (p : k < n). rw (any-at f k n p e) (or-true (f n))) (le-or-lt n k)
+
+pub or-false-both : (a b : Bool) → a || b ≡ false → (a ≡ false) × (b ≡ false)
+or-false-both true b h = absurd (true≢false h)
+or-false-both false b h = (refl, h)
+
+pub any-each : (f : ℕ → Bool) (n k : ℕ) → anyBelow f n ≡ false → k < n → f k ≡ false
+unfolding anyBelow
+any-each f zero k h l = absurd (omega arith)
+any-each f (suc n) k h l =
+    let o = or-false-both (f n) (anyBelow f n) h in
+    ⊎-elim (λ (p : n ≤ k). let z : k ≡ n = omega arith in rw z (o .0)) (λ (p : k < n). any-each f n k (o .1) p) (le-or-lt n k)
+
+pub any-all : (f : ℕ → Bool) (n : ℕ) → ((k : ℕ) → k < n → f k ≡ false) → anyBelow f n ≡ false
+unfolding anyBelow
+any-all f zero h = refl
+any-all f (suc n) h = rw (h n (omega arith)) (any-all f n (λ k l. h k (omega arith)))
+
+pub any-same : (f g : ℕ → Bool) (n : ℕ) → ((k : ℕ) → k < n → f k ≡ g k) → anyBelow f n ≡ anyBelow g n
+unfolding anyBelow
+any-same f g zero h = refl
+any-same f g (suc n) h = ap₂ (λ (a b : Bool). a || b) (h n (omega arith)) (any-same f g n (λ k l. h k (omega arith)))
+
+-- ---- equal words
+pub words-same : (a b : Bitboard) → sameWords a b ≡ true → a ≡ b
+unfolding sameWords
+words-same a b e =
+    let p = both (eqb (a .lo) (b .lo)) (eqb (a .hi) (b .hi)) e in
+    ap₂ (λ (x y : ℕ). record { lo = x; hi = y }) (eqb-true (a .lo) (b .lo) (p .0)) (eqb-true (a .hi) (b .hi) (p .1))
+
+words-refl : (a b : Bitboard) → a ≡ b → sameWords a b ≡ true
+unfolding sameWords
+words-refl a b e = rw (eq-eqb (a .lo) (b .lo) (ap (λ (s : Bitboard). s .lo) e), eq-eqb (a .hi) (b .hi) (ap (λ (s : Bitboard). s .hi) e))
+
+module _ (a b : List Bitboard) (k : ℕ) (la : length a ≡ k) (lb : length b ≡ k) where
+  pub compared-all : ((j : ℕ) → j < k → getD a j emptyS ≡ getD b j emptyS) → Compared a b true
+  compared-all h = record { same = λ _. ext-getD emptyS a b (la ∙ sym lb) (λ j q. h j (omega arith)); differ = λ z. absurd (true≢false z) }
+
+  pub compared-at : (j : ℕ) (d e : Bitboard) → j < k → sameWords (getD a j d) (getD b j e) ≡ false → Compared a b false
+  compared-at j d e h w =
+      record {
+        same = λ z. absurd (false≢true z);
+        differ = λ _ q.
+            absurd (true≢false (sym (words-refl (getD a j d) (getD b j e) (getD-any a j d e (omega arith) ∙ ap (λ (l : List Bitboard). getD l j e) q)) ∙ w));
+      }
+
+  pub equal-at : (j : ℕ) (d e : Bitboard) → j < k → sameWords (getD a j d) (getD b j e) ≡ true → getD a j emptyS ≡ getD b j emptyS
+  equal-at j d e h w = getD-any a j emptyS d (omega arith) ∙ words-same (getD a j d) (getD b j e) w ∙ getD-any b j e emptyS (omega arith)
+
+-- ---- a set and a mark
+pub disagrees-is : (sets : List Bitboard) (mark n j : ℕ) (d : Bitboard) → j < length sets
+    → not (Bool·beq (has (getD sets j d) n) (eqb mark (j + 1))) ≡ disagrees sets mark n j
+unfolding disagrees
+disagrees-is sets mark n j d h = ap (λ (b : Bitboard). not (Bool·beq (has b n) (eqb mark (j + 1)))) (getD-any sets j d emptyS h)
+
+pub unlike-yes : (a b : Bool) → a ≡ true → not b ≡ not (Bool·beq a b)
+unlike-yes true true e = refl
+unlike-yes true false e = refl
+unlike-yes false b e = absurd (false≢true e)
+
+pub unlike-no : (a b : Bool) → a ≡ false → b ≡ not (Bool·beq a b)
+unlike-no false true e = refl
+unlike-no false false e = refl
+unlike-no true b e = absurd (true≢false e)

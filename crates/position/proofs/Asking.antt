@@ -1,0 +1,249 @@
+-- What a query of a sound position reads: the sets by what stands on the squares, and the king squares.
+use mathlib.Core.Path.{_≡_, refl, sym, ap, ap₂, _∙_}
+use Prim.Native.Nat.{ℕ, _+_, _-_, _*_, _≤_, _<_}
+use mathlib.Core.Bool.{Bool, true, false, not, _&&_, _||_, cond}
+use mathlib.Core.Logic.{_⊎_, inl, inr, ⊎-elim}
+use mathlib.Core.List.{List}
+use native.Mathlib.Omega.{arith}
+use native.Mathlib.Decide.{ℕ-discrete}
+use lib.ListN.{length, getD}
+use lib.Dec.{eqb, leb}
+use borrow.Author.Tests.{eq-eqb, ne-eqb, leb-true, not-true, not-false}
+use Rattle.squares.specs.declared.bitboard.Bitboard.{Bitboard}
+use Rattle.squares.specs.Board.{onBoard}
+use Rattle.squares.specs.Kinds.{goodColour, goodPiece, goodCell, colourOf, kindOf}
+use Rattle.squares.specs.Sets.{setOf, emptyS, andS, orS, notS}
+use Rattle.squares.proofs.Laws.{both, le-or-lt, eqb-same, board-range, setOf-cong, and-rules, or-rules, not-rule, cell-piece, piece-low-bound, colour-range, black-kind, white-kind, black-colour, white-colour, empty-colour}
+use Rattle.position.specs.Machine.{cellAt, kingSquare}
+use Rattle.position.specs.Sound.{anyBelow, strayIn, kingWrong, firstFault, faultElsewhere, sound}
+use Rattle.position.specs.Inner.{Tidy}
+use Rattle.position.specs.Answers.{firstFact, toldBy, queryFacts, toldQuery, answered, stood, pieceAnswer, setAnswer, occupiedAnswer, sideAnswer, plyAnswer, handAt, handKindOk, handAnswer, kingShown, kingAnswer, lastMove, lastAnswer}
+use Rattle.position.specs.declared.position.Position.{Position}
+use Rattle.position.specs.declared.answers.Told.{Told}
+use Rattle.position.specs.declared.answers.Stands.{Stands}
+use Rattle.position.specs.declared.answers.Stands.the-variants as Stand
+use Rattle.position.specs.declared.answers.SetAnswer.{SetAnswer}
+use Rattle.position.specs.declared.answers.KingSquare.{KingSquare}
+use Rattle.position.specs.declared.answers.KingSquare.the-variants as King
+use Rattle.position.specs.declared.mv.LastMove.{LastMove}
+use Rattle.position.specs.declared.mv.LastMove.the-variants as Last
+use Rattle.position.proofs.Tidiness.{family-at, sound-tidy}
+use Rattle.position.proofs.InOrder.{king-is, king-square}
+use Rattle.position.proofs.Agree.{or-false-both}
+
+-- ---- the number that comes before the value
+module _ (p : Position) (bad : Bool) (t : Told) (e : t ≡ toldQuery bad p) where
+  pub refused : (t .number ≡ 0 → ⊥) → answered bad p ≡ false
+  unfolding toldQuery toldBy answered
+  refused h = ne-eqb _ 0 (λ z. h (ap (λ (x : Told). x .number) e ∙ z))
+
+  pub done : t .number ≡ 0 → answered bad p ≡ true
+  unfolding toldQuery toldBy answered
+  done h = eq-eqb _ 0 (sym (ap (λ (x : Told). x .number) e) ∙ h)
+
+  facts : t .number ≡ 0 → (bad ≡ false) × (sound p ≡ true)
+  unfolding toldQuery toldBy queryFacts firstFact
+  facts h = go bad (sound p) (sym (ap (λ (x : Told). x .number) e) ∙ h)
+    where
+      go : (b s : Bool) → _≡_ {A = ℕ} (cond b 2 (cond (not s) 1 0)) 0 → (b ≡ false) × (s ≡ true)
+      go true s z = absurd (omega arith)
+      go false false z = absurd (omega arith)
+      go false true z = (refl, refl)
+
+  pub done-good : t .number ≡ 0 → bad ≡ false
+  done-good h = facts h .0
+
+  pub done-sound : t .number ≡ 0 → sound p ≡ true
+  done-sound h = facts h .1
+
+  pub set-refused : (test : ℕ → Bool) → (t .number ≡ 0 → ⊥) → record { told = t; set = emptyS } ≡ setAnswer bad test p
+  unfolding setAnswer
+  set-refused test h = rw (refused h, ← e)
+
+  pub set-done : (test : ℕ → Bool) (s : Bitboard) → t .number ≡ 0 → s ≡ setOf (λ n. test (cellAt (p .board) n)) → record { told = t; set = s } ≡ setAnswer bad test p
+  unfolding setAnswer
+  set-done test s h q = rw (done h, ← e, q)
+
+-- ---- a piece by its colour and its kind
+piece-by : (x v : ℕ) → goodCell x ≡ true → goodPiece v ≡ true → eqb (colourOf x) (colourOf v) && eqb (kindOf x) (kindOf v) ≡ eqb x v
+piece-by x v g h = ⊎-elim black white (le-or-lt v 16)
+  where
+    cell : Dec (x ≡ 0) → (x ≡ 0) ⊎ (goodPiece x ≡ true)
+    cell (yes e) = inl e
+    cell (no d) = inr (cell-piece x g d)
+
+    black : v ≤ 16 → eqb (colourOf x) (colourOf v) && eqb (kindOf x) (kindOf v) ≡ eqb x v
+    black l = rw (black-colour v (piece-low-bound v h) l, black-kind v l) (⊎-elim none (λ q. ⊎-elim same other (le-or-lt x 16)) (cell (ℕ-discrete x 0)))
+      where
+        none : x ≡ 0 → eqb (colourOf x) 1 && eqb (kindOf x) v ≡ eqb x v
+        none e = let z : colourOf x ≡ 0 = ap colourOf e ∙ empty-colour in rw z (sym (ne-eqb x v (λ q. let b = piece-low-bound v h in omega arith)))
+
+        same : x ≤ 16 → eqb (colourOf x) 1 && eqb (kindOf x) v ≡ eqb x v
+        same m = go (ℕ-discrete x 0)
+          where
+            go : Dec (x ≡ 0) → eqb (colourOf x) 1 && eqb (kindOf x) v ≡ eqb x v
+            go (yes e) = none e
+            go (no d) = rw (black-colour x (piece-low-bound x (cell-piece x g d)) m, black-kind x m)
+
+        other : 16 < x → eqb (colourOf x) 1 && eqb (kindOf x) v ≡ eqb x v
+        other m = rw (white-colour x m) (sym (ne-eqb x v (λ q. omega arith)))
+
+    white : 16 < v → eqb (colourOf x) (colourOf v) && eqb (kindOf x) (kindOf v) ≡ eqb x v
+    white l = rw (white-colour v l, white-kind v l) (⊎-elim low high (le-or-lt x 16))
+      where
+        low : x ≤ 16 → eqb (colourOf x) 2 && eqb (kindOf x) (v - 16) ≡ eqb x v
+        low m = go (ℕ-discrete x 0)
+          where
+            go : Dec (x ≡ 0) → eqb (colourOf x) 2 && eqb (kindOf x) (v - 16) ≡ eqb x v
+            go (yes e) = let z : colourOf x ≡ 0 = ap colourOf e ∙ empty-colour in rw z (sym (ne-eqb x v (λ q. omega arith)))
+            go (no d) = rw (black-colour x (piece-low-bound x (cell-piece x g d)) m) (sym (ne-eqb x v (λ q. omega arith)))
+
+        high : 16 < x → eqb (colourOf x) 2 && eqb (kindOf x) (v - 16) ≡ eqb x v
+        high m = rw (white-colour x m, white-kind x m) (eqb-same (x - 16) (v - 16) x v (λ q. omega arith) (λ q. omega arith))
+
+colour-none : (x : ℕ) → goodCell x ≡ true → eqb (colourOf x) 1 || eqb (colourOf x) 2 ≡ not (eqb x 0)
+colour-none x g = go (ℕ-discrete x 0)
+  where
+    go : Dec (x ≡ 0) → eqb (colourOf x) 1 || eqb (colourOf x) 2 ≡ not (eqb x 0)
+    go (yes e) = let z : colourOf x ≡ 0 = ap colourOf e ∙ empty-colour in rw (z, eq-eqb x 0 e)
+    go (no d) =
+        ⊎-elim (λ (m : x ≤ 16). rw (black-colour x (piece-low-bound x (cell-piece x g d)) m, ne-eqb x 0 d))
+        (λ (m : 16 < x). rw (white-colour x m, ne-eqb x 0 d)) (le-or-lt x 16)
+
+-- ---- the sets of a sound position
+module _ (p : Position) (two : length (p .players) ≡ 2) (fourteen : length (p .kinds) ≡ 14) (s : sound p ≡ true) where
+  tidy : Tidy p
+  tidy = sound-tidy p two fourteen s
+
+  good : (n : ℕ) → 1 ≤ n → n ≤ 81 → goodCell (cellAt (p .board) n) ≡ true
+  good = tidy .cells
+
+  pub player-set : (j : ℕ) (d : Bitboard) → j < 2 → getD (p .players) j d ≡ setOf (λ n. eqb (colourOf (cellAt (p .board) n)) (1 + j))
+  player-set j d h = ap (λ (l : List Bitboard). getD l j d) (tidy .players) ∙ family-at colourOf 2 (p .board) j d h
+
+  pub kind-set : (j : ℕ) (d : Bitboard) → j < 14 → getD (p .kinds) j d ≡ setOf (λ n. eqb (kindOf (cellAt (p .board) n)) (1 + j))
+  kind-set j d h = ap (λ (l : List Bitboard). getD l j d) (tidy .kinds) ∙ family-at kindOf 14 (p .board) j d h
+
+  pub piece-set : (v i j : ℕ) (d e : Bitboard) → goodPiece v ≡ true → i + 1 ≡ colourOf v → i < 2 → j + 1 ≡ kindOf v → j < 14
+      → andS (getD (p .players) i d) (getD (p .kinds) j e) ≡ setOf (λ n. eqb (cellAt (p .board) n) v)
+  piece-set v i j d e g ci hi kj hj =
+      let a : 1 + i ≡ colourOf v = omega arith in
+      let b : 1 + j ≡ kindOf v = omega arith in
+      ap₂ andS (player-set i d hi) (kind-set j e hj)
+      ∙ and-rules (λ n. eqb (colourOf (cellAt (p .board) n)) (1 + i)) (λ n. eqb (kindOf (cellAt (p .board) n)) (1 + j))
+      ∙ setOf-cong (λ n. eqb (colourOf (cellAt (p .board) n)) (1 + i) && eqb (kindOf (cellAt (p .board) n)) (1 + j)) (λ n. eqb (cellAt (p .board) n) v)
+      (λ n o. let r = board-range 9 n o in rw (a, b) (piece-by (cellAt (p .board) n) v (good n (r .0) (r .1)) g))
+
+  pub occupied-set : (d e : Bitboard) → orS (getD (p .players) 0 d) (getD (p .players) 1 e) ≡ setOf (λ n. not (eqb (cellAt (p .board) n) 0))
+  occupied-set d e =
+      ap₂ orS (player-set 0 d (omega arith)) (player-set 1 e (omega arith))
+      ∙ or-rules (λ n. eqb (colourOf (cellAt (p .board) n)) 1) (λ n. eqb (colourOf (cellAt (p .board) n)) 2)
+      ∙ setOf-cong (λ n. eqb (colourOf (cellAt (p .board) n)) 1 || eqb (colourOf (cellAt (p .board) n)) 2) (λ n. not (eqb (cellAt (p .board) n) 0))
+      (λ n o. let r = board-range 9 n o in colour-none (cellAt (p .board) n) (good n (r .0) (r .1)))
+
+pub vacant-set : (p : Position) → notS (setOf (λ n. not (eqb (cellAt (p .board) n) 0))) ≡ setOf (λ n. eqb (cellAt (p .board) n) 0)
+vacant-set p =
+    not-rule (λ n. not (eqb (cellAt (p .board) n) 0))
+    ∙ setOf-cong (λ n. not (not (eqb (cellAt (p .board) n) 0))) (λ n. eqb (cellAt (p .board) n) 0) (λ n o. twice (eqb (cellAt (p .board) n) 0))
+  where
+    twice : (t : Bool) → not (not t) ≡ t
+    twice true = refl
+    twice false = refl
+
+-- ---- the king squares of a sound position
+pub king-squares : (p : Position) → sound p ≡ true → (kingSquare (p .board) 8 ≡ p .bking) × (kingSquare (p .board) 24 ≡ p .wking)
+unfolding sound faultElsewhere
+king-squares p h =
+    let q = both (eqb (firstFault p) 0) (not (faultElsewhere p)) h in
+    let a = or-false-both (anyBelow (strayIn (p .players)) 2) _ (not-true (faultElsewhere p) (q .1)) in
+    let b = or-false-both (anyBelow (strayIn (p .kinds)) 14) _ (a .1) in
+    let c = or-false-both (kingWrong (p .board) 8 (p .bking)) _ (b .1) in
+    let d = or-false-both (kingWrong (p .board) 24 (p .wking)) _ (c .1) in
+    (king-square _ 8 _ (king-is _ 8 _ (c .0)), king-square _ 24 _ (king-is _ 24 _ (d .0)))
+
+pub own-king : (p : Position) (c : ℕ) → sound p ≡ true → goodColour c ≡ true → cond (eqb c 1) (p .bking) (p .wking) ≡ kingSquare (p .board) (16 * c - 8)
+own-king p c s g = go (ℕ-discrete c 1)
+  where
+    go : Dec (c ≡ 1) → cond (eqb c 1) (p .bking) (p .wking) ≡ kingSquare (p .board) (16 * c - 8)
+    go (yes e) = let z : 16 * c - 8 ≡ 8 = omega arith in rw (eq-eqb c 1 e, z) (sym (king-squares p s .0))
+    go (no d) =
+        let r = colour-range c g in
+        let two : c ≡ 2 = only-two c (r .0) (r .1) d in
+        let z : 16 * c - 8 ≡ 24 = omega arith in
+        rw (ne-eqb c 1 d, z) (sym (king-squares p s .1))
+      where
+        only-two : (c : ℕ) → 1 ≤ c → c ≤ 2 → (c ≡ 1 → ⊥) → c ≡ 2
+        only-two c lo hi d = ⊎-elim (λ (l : c ≤ 1). absurd (d (omega arith))) (λ (l : 1 < c). omega arith) (le-or-lt c 1)
+
+-- ---- the answers, refused or with their value
+module _ (p : Position) (t : Told) where
+  module _ (n : ℕ) (e : t ≡ toldQuery (not (onBoard 9 n)) p) where
+    pub piece-refused : (t .number ≡ 0 → ⊥) → record { told = t; stands = Stand.Nothing } ≡ pieceAnswer p n
+    unfolding pieceAnswer
+    piece-refused h = rw (refused p _ t e h, ← e)
+
+    pub piece-done : (v : Stands) → t .number ≡ 0 → v ≡ stood (cellAt (p .board) n) → record { told = t; stands = v } ≡ pieceAnswer p n
+    unfolding pieceAnswer
+    piece-done v h q = rw (done p _ t e h, ← e, q)
+
+  module _ (c k : ℕ) (e : t ≡ toldQuery (not (goodColour c && handKindOk k)) p) where
+    pub hand-refused : (t .number ≡ 0 → ⊥) → record { told = t; value = 0 } ≡ handAnswer p c k
+    unfolding handAnswer
+    hand-refused h = rw (refused p _ t e h, ← e)
+
+    pub hand-done : (v : ℕ) → t .number ≡ 0 → v ≡ getD (p .hands) (handAt c k) 0 → record { told = t; value = v } ≡ handAnswer p c k
+    unfolding handAnswer
+    hand-done v h q = rw (done p _ t e h, ← e, q)
+
+    pub hand-numbers : t .number ≡ 0 → (1 ≤ c) × (c ≤ 2) × (1 ≤ k) × (k ≤ 7)
+    unfolding handKindOk
+    hand-numbers h =
+        let b = both (goodColour c) (leb 1 k && leb k 7) (not-false _ (done-good p _ t e h)) in
+        let r = colour-range c (b .0) in
+        let l = both (leb 1 k) (leb k 7) (b .1) in
+        (r .0, r .1, leb-true 1 k (l .0), leb-true k 7 (l .1))
+
+  module _ (c : ℕ) (e : t ≡ toldQuery (not (goodColour c)) p) where
+    pub king-refused : (t .number ≡ 0 → ⊥) → record { told = t; king = King.Nothing } ≡ kingAnswer p c
+    unfolding kingAnswer
+    king-refused h = rw (refused p _ t e h, ← e)
+
+    pub king-done : (v : KingSquare) (q : ℕ) → t .number ≡ 0 → v ≡ kingShown q → q ≡ cond (eqb c 1) (p .bking) (p .wking) → record { told = t; king = v } ≡ kingAnswer p c
+    unfolding kingAnswer
+    king-done v q h shown is =
+        rw (done p _ t e h, ← e, shown, is ∙ own-king p c (done-sound p _ t e h) (not-false _ (done-good p _ t e h)))
+
+  module _ (e : t ≡ toldQuery false p) where
+    pub side-refused : (t .number ≡ 0 → ⊥) → record { told = t; value = 0 } ≡ sideAnswer p
+    unfolding sideAnswer
+    side-refused h = rw (refused p _ t e h, ← e)
+
+    pub side-done : t .number ≡ 0 → record { told = t; value = p .side } ≡ sideAnswer p
+    unfolding sideAnswer
+    side-done h = rw (done p _ t e h, ← e)
+
+    pub ply-refused : (t .number ≡ 0 → ⊥) → record { told = t; ply = 0 } ≡ plyAnswer p
+    unfolding plyAnswer
+    ply-refused h = rw (refused p _ t e h, ← e)
+
+    pub ply-done : t .number ≡ 0 → record { told = t; ply = p .ply } ≡ plyAnswer p
+    unfolding plyAnswer
+    ply-done h = rw (done p _ t e h, ← e)
+
+    pub last-refused : (t .number ≡ 0 → ⊥) → record { told = t; last = Last.Nothing } ≡ lastAnswer p
+    unfolding lastAnswer
+    last-refused h = rw (refused p _ t e h, ← e)
+
+    pub last-done : (v : LastMove) → t .number ≡ 0 → v ≡ lastMove (p .last) → record { told = t; last = v } ≡ lastAnswer p
+    unfolding lastAnswer
+    last-done v h q = rw (done p _ t e h, ← e, q)
+
+-- ---- what the occupied squares' answer says
+module _ (p : Position) (r : SetAnswer) (e : r ≡ occupiedAnswer p) where
+  pub occupied-told : r .told ≡ toldQuery false p
+  unfolding occupiedAnswer setAnswer
+  occupied-told = ap (λ (x : SetAnswer). x .told) e
+
+  pub occupied-value : r .told .number ≡ 0 → r .set ≡ setOf (λ n. not (eqb (cellAt (p .board) n) 0))
+  unfolding occupiedAnswer setAnswer
+  occupied-value h = rw (done p false (r .told) occupied-told h) at (ap (λ (x : SetAnswer). x .set) e)

@@ -1,0 +1,23 @@
+-- Crates above cite Laws alone.
+mod Lists
+mod Marking
+mod Agree
+mod Reading
+mod Elsewhere
+mod Tidiness
+mod Stores
+mod InOrder
+mod Asking
+mod Pieces
+mod Kings
+mod Carry
+mod Tallies
+mod Ladder
+mod Kept
+mod Halves
+mod Stepping
+mod Exact
+mod Theorems
+mod Editing
+mod Marked
+pub mod Laws

@@ -1,0 +1,136 @@
+-- The piece that arrives, and the kind as which a piece is held, at each of the good cells by one computed test.
+use mathlib.Core.Path.{_≡_, refl, sym, ap, _∙_}
+use mathlib.Core.Logic.{⊎-elim}
+use Prim.Native.Nat.{ℕ, zero, suc, _+_, _-_, _≤_, _<_}
+use mathlib.Core.Bool.{Bool, true, false, not, _&&_, _||_, true≢false}
+use native.Mathlib.Omega.{arith}
+use lib.Dec.{eqb, leb}
+use borrow.Author.Tests.{eqb-true, eqb-false, ne-eqb, leb-true, lt-leb, not-false, not-true}
+use Rattle.squares.specs.Kinds.{kindRow, kinds, goodKind, handKind, goodColour, otherColour, pieceOf, colourOf, kindOf, goodPiece, goodCell, promotedPiece}
+use Rattle.squares.specs.Answers.{FormValue, formIf, formGiven, promotedPieceAnswer, handKindAnswer}
+use Rattle.squares.specs.declared.answers.FormAnswer.{FormAnswer}
+use Rattle.squares.proofs.Laws.{both, decided, le-or-lt, piece-high, kind-high, row-bad}
+use Rattle.position.specs.Sound.{anyBelow}
+use Rattle.position.specs.Moves.{arriving}
+use Rattle.position.proofs.Agree.{any-each}
+
+pub positive : (n : ℕ) → (n ≡ 0 → ⊥) → 1 ≤ n
+positive zero d = absurd (d refl)
+positive (suc n) d = omega arith
+
+pub or-right : (a b : Bool) → a ≡ false → a || b ≡ true → b ≡ true
+or-right true b e h = absurd (true≢false e)
+or-right false b e h = h
+
+abbrev pub unkind : ℕ → ℕ
+unkind c = kindRow (kindOf c) .unpromoted
+
+pub piece-small : (c : ℕ) → goodPiece c ≡ true → c < 31
+piece-small c g = ⊎-elim (λ (h : 31 ≤ c). absurd (true≢false (sym g ∙ piece-high c h))) (λ (h : c < 31). h) (le-or-lt 31 c)
+
+-- ---- what promotes becomes a piece of the same unpromoted kind, and no king
+pub record Lands (v c : ℕ) : Type 0 where
+  pub good : goodPiece v ≡ true
+  pub kind : unkind v ≡ unkind c
+  pub black : v ≡ 8 → c ≡ 8
+  pub white : v ≡ 24 → c ≡ 24
+
+unlike : ℕ → Bool
+unlike c =
+    let v = promotedPiece c in
+    not (eqb v 0 || (goodPiece v && (eqb (unkind v) (unkind c) && (not (eqb v 8) && not (eqb v 24)))))
+
+unlike-none : anyBelow unlike 31 ≡ false
+unfolding anyBelow unlike promotedPiece pieceOf kindRow kinds goodPiece goodKind colourOf kindOf
+unlike-none = refl
+
+promoted-lands : (c : ℕ) → c < 31 → (promotedPiece c ≡ 0 → ⊥) → Lands (promotedPiece c) c
+unfolding unlike
+promoted-lands c h d =
+    let b = both _ _ (or-right _ _ (ne-eqb (promotedPiece c) 0 d) (not-false _ (any-each unlike 31 c unlike-none h))) in
+    let e = both _ _ (b .1) in
+    let f = both _ _ (e .1) in
+    record {
+      good = b .0;
+      kind = eqb-true _ _ (e .0);
+      black = λ z. absurd (eqb-false (promotedPiece c) 8 (not-true _ (f .0)) z);
+      white = λ z. absurd (eqb-false (promotedPiece c) 24 (not-true _ (f .1)) z);
+    }
+
+pub arriving-lands : (promote : Bool) (c : ℕ) → goodPiece c ≡ true → promote && eqb (promotedPiece c) 0 ≡ false → Lands (arriving promote c) c
+unfolding arriving
+arriving-lands true c g h = promoted-lands c (piece-small c g) (eqb-false (promotedPiece c) 0 h)
+arriving-lands false c g h = record { good = g; kind = refl; black = λ z. z; white = λ z. z }
+
+-- ---- a piece that is no king is held as its unpromoted kind, one of 1 to 7; an empty cell as none
+pub record Holds (t : ℕ) : Type 0 where
+  pub kind : handKind (kindOf t) ≡ unkind t
+  pub high : handKind (kindOf t) ≤ 7
+
+unheld : ℕ → Bool
+unheld t = not (eqb (kindOf t) 8 || (eqb (handKind (kindOf t)) (unkind t) && leb (handKind (kindOf t)) 7))
+
+unheld-none : anyBelow unheld 31 ≡ false
+unfolding anyBelow unheld handKind kindRow kinds kindOf
+unheld-none = refl
+
+pub cell-held : (t : ℕ) → goodCell t ≡ true → (kindOf t ≡ 8 → ⊥) → Holds t
+unfolding unheld goodCell
+cell-held t g d =
+    let h : t < 31 = ⊎-elim (λ (e : eqb t 0 ≡ true). omega (arith, eqb-true t 0 e)) (λ (e : eqb t 0 ≡ false). piece-small t (rw e at g)) (decided (eqb t 0)) in
+    let b = both _ _ (or-right _ _ (ne-eqb (kindOf t) 8 d) (not-false _ (any-each unheld 31 t unheld-none h))) in
+    record { kind = eqb-true _ _ (b .0); high = leb-true _ _ (b .1) }
+
+-- an unpromoted kind is its own
+unpromoted-own : anyBelow (λ c. not (leb 9 (kindOf c) || eqb (unkind c) (kindOf c))) 31 ≡ false
+unfolding anyBelow kindRow kinds kindOf
+unpromoted-own = refl
+
+pub plain-kind : (c : ℕ) → goodPiece c ≡ true → kindOf c < 9 → unkind c ≡ kindOf c
+plain-kind c g h =
+    eqb-true _ _ (or-right _ _ (lt-leb 9 (kindOf c) h) (not-false _ (any-each (λ c. not (leb 9 (kindOf c) || eqb (unkind c) (kindOf c))) 31 c unpromoted-own (piece-small c g))))
+
+pub limit-small : (j : ℕ) → j < 7 → kindRow (j + 1) .limit ≤ 18
+unfolding anyBelow kindRow kinds
+limit-small j h = leb-true _ 18 (not-false _ (any-each (λ j. not (leb (kindRow (j + 1) .limit) 18)) 7 j refl h))
+
+-- ---- the other colour
+pub other-good : (c : ℕ) → goodColour c ≡ true → goodColour (otherColour c) ≡ true
+unfolding goodColour otherColour
+other-good c g = by (eqb c 1) (eqb c 2) refl refl g
+  where
+    by : (s t : Bool) → eqb c 1 ≡ s → eqb c 2 ≡ t → s || t ≡ true → eqb (3 - c) 1 || eqb (3 - c) 2 ≡ true
+    by true t a b h = rw (eqb-true c 1 a)
+    by false true a b h = rw (eqb-true c 2 b)
+    by false false a b h = absurd (true≢false (sym h))
+
+-- ---- a number that is no kind has no promoted form, and is not held
+no-promoted : (c : ℕ) → goodPiece c ≡ false → promotedPiece c ≡ 0
+unfolding goodPiece promotedPiece
+no-promoted c g = rw (row-bad (kindOf c) g .1)
+
+no-held : (k : ℕ) → goodKind k ≡ false → handKind k ≡ 0
+unfolding handKind
+no-held k g = rw (row-bad k g .0)
+
+small-holds : anyBelow (λ j. not (leb (handKind j) 7)) 15 ≡ false
+unfolding anyBelow handKind kindRow kinds
+small-holds = refl
+
+pub held-small : (k : ℕ) → handKind k ≤ 7
+held-small k =
+    ⊎-elim (λ (h : k ≤ 14). leb-true _ 7 (not-false _ (any-each (λ j. not (leb (handKind j) 7)) 15 k small-holds (omega arith))))
+    (λ (h : 14 < k). omega (arith, no-held k (kind-high k h))) (le-or-lt k 14)
+
+-- what a form's answer says
+form-value : (r : FormAnswer) (t : Bool) (v : ℕ) → (t ≡ false → v ≡ 0) → formGiven r ≡ formIf t v → formGiven r .value ≡ v
+form-value r true v z e = ap (λ (x : FormValue). x .value) e
+form-value r false v z e = ap (λ (x : FormValue). x .value) e ∙ sym (z refl)
+
+pub promoted-value : (r : FormAnswer) (c : ℕ) → formGiven r ≡ promotedPieceAnswer c → formGiven r .value ≡ promotedPiece c
+unfolding promotedPieceAnswer
+promoted-value r c e = form-value r (goodPiece c) (promotedPiece c) (no-promoted c) e
+
+pub held-value : (r : FormAnswer) (k : ℕ) → formGiven r ≡ handKindAnswer k → formGiven r .value ≡ handKind k
+unfolding handKindAnswer
+held-value r k e = form-value r (goodKind k) (handKind k) (no-held k) e

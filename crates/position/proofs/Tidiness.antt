@@ -1,0 +1,371 @@
+-- A position is sound exactly where its sets are those of its good cells and no fault lies elsewhere; kings and counts can
+-- then be read off the sets.
+use mathlib.Core.Path.{_≡_, refl, sym, ap, ap₂, _∙_}
+use Prim.Native.Nat.{ℕ, zero, suc, _+_, _-_, _*_, _/_, _%_, _≤_, _<_}
+use mathlib.Core.Bool.{Bool, true, false, _&&_, _||_, not, cond, Bool·beq, and-false, false≢true}
+use mathlib.Core.Logic.{⊎-elim}
+use mathlib.Core.List.{List}
+use native.Mathlib.Omega.{arith}
+use native.Mathlib.Decide.{ℕ-discrete}
+use lib.ListN.{length, getD}
+use lib.Dec.{eqb, leb, ltb, eqb→eq}
+use borrow.Author.Tests.{eq-eqb, ne-eqb, eqb-true, le-leb, lt-leb, leb-true, ltb-false, le-ltb, lt-ltb, not-true, not-false}
+use Rattle.squares.specs.declared.bitboard.Bitboard.{Bitboard}
+use Rattle.squares.specs.Bit.{digit}
+use Rattle.squares.specs.Board.{onBoard}
+use Rattle.squares.specs.Kinds.{kinds, kindRow, goodCell, goodColour, colourOf, kindOf}
+use Rattle.squares.specs.Sets.{has, setOf, clean, emptyS, andS, countOf, size, smallest, withoutS}
+use Rattle.squares.proofs.Laws.{both, decided, eqb-same, promoted-small, count-none, all, all-at, le-or-lt, board-on, board-range, has-setOf, setOf-cong, clean-setOf, clean-has, and-rules, First, smallest-is, smallest-at, smallest-none, size-without, size-none, has-withoutS, has-off, size-rule, count-sum, cell-piece, piece-kind, piece-low-bound, black-kind, white-kind, black-colour, white-colour, empty-colour}
+use Rattle.position.specs.Machine.{cellAt, family}
+use Rattle.position.specs.Sound.{anyBelow, disagrees, faultyAt, readingAt, firstFault, strayIn, kingWrong, standing, overLimit, goodLast, faultElsewhere, sound}
+use Rattle.position.specs.Inner.{MarksOf, Compared, Tidy, TidyTold, kingOff, kindSize, setsSize, overBySets}
+use Rattle.position.specs.Answers.{firstFact, toldBy, queryFacts, toldQuery, soundnessTold}
+use Rattle.position.specs.declared.sound.Marks.{Marks}
+use Rattle.position.specs.declared.position.Position.{Position}
+use Rattle.position.proofs.Lists.{length-tab, getD-tab, is-tab}
+use Rattle.position.proofs.Agree.{any-all, any-each, any-same, or-false-both}
+use Rattle.position.proofs.Reading.{reading-range, reading-all, first-none, first-all}
+
+pub beq-false : (a b : Bool) → not (Bool·beq a b) ≡ false → a ≡ b
+beq-false true true h = refl
+beq-false true false h = h
+beq-false false true h = sym h
+beq-false false false h = refl
+
+pub beq-same : (t : Bool) → not (Bool·beq t t) ≡ false
+beq-same true = refl
+beq-same false = refl
+
+-- ---- the sets of the cells
+module _ (mark : ℕ → ℕ) (count : ℕ) (cells : List ℕ) where
+  pub family-length : length (family mark count cells) ≡ count
+  unfolding family
+  family-length = length-tab (λ k. setOf (λ n. eqb (mark (cellAt cells n)) k)) 1 count
+
+  pub family-at : (j : ℕ) (d : Bitboard) → j < count → getD (family mark count cells) j d ≡ setOf (λ n. eqb (mark (cellAt cells n)) (1 + j))
+  unfolding family
+  family-at j d h = getD-tab (λ k. setOf (λ n. eqb (mark (cellAt cells n)) k)) 1 count j d h
+
+  agrees : (n : ℕ) → 1 ≤ n → n ≤ 81 → anyBelow (disagrees (family mark count cells) (mark (cellAt cells n)) n) count ≡ false
+  unfolding disagrees
+  agrees n lo hi =
+      any-all (disagrees (family mark count cells) (mark (cellAt cells n)) n) count (λ j h.
+      let y : j + 1 ≡ 1 + j = omega arith in
+      let e : has (getD (family mark count cells) j emptyS) n ≡ eqb (mark (cellAt cells n)) (j + 1) =
+      ap (λ (s : Bitboard). has s n) (family-at j emptyS h) ∙ has-setOf (λ m. eqb (mark (cellAt cells m)) (1 + j)) n
+      ∙ ap (λ (t : Bool). t && eqb (mark (cellAt cells n)) (1 + j)) (board-on 9 n lo hi) ∙ ap (eqb (mark (cellAt cells n))) (sym y) in
+      rw e (beq-same (eqb (mark (cellAt cells n)) (j + 1))))
+
+  tidy-sets : anyBelow (strayIn (family mark count cells)) count ≡ false
+  unfolding strayIn
+  tidy-sets =
+      any-all (strayIn (family mark count cells)) count (λ j h.
+      ap (λ (s : Bitboard). not (clean s)) (family-at j emptyS h) ∙ ap not (clean-setOf (λ n. eqb (mark (cellAt cells n)) (1 + j))))
+
+  -- sets without stray bits that agree with the cells everywhere are those of the cells
+  pub sets-match : (sets : List Bitboard) → length sets ≡ count → anyBelow (strayIn sets) count ≡ false
+      → ((n : ℕ) → 1 ≤ n → n ≤ 81 → anyBelow (disagrees sets (mark (cellAt cells n)) n) count ≡ false) → sets ≡ family mark count cells
+  unfolding strayIn disagrees family
+  sets-match sets size tidy agree =
+      is-tab sets (λ k. setOf (λ n. eqb (mark (cellAt cells n)) k)) count emptyS size (λ j h.
+      let y : j + 1 ≡ 1 + j = omega arith in
+      sym (clean-has (getD sets j emptyS) (not-false _ (any-each (strayIn sets) count j tidy h)))
+      ∙ setOf-cong (has (getD sets j emptyS)) (λ n. eqb (mark (cellAt cells n)) (1 + j)) (λ n o.
+      let b = board-range 9 n o in
+      beq-false _ _ (any-each (disagrees sets (mark (cellAt cells n)) n) count j (agree n (b .0) (b .1)) h) ∙ ap (eqb (mark (cellAt cells n))) y))
+
+-- ---- faults of cells
+tidy-cell : (p : Position) (n : ℕ) → 1 ≤ n → n ≤ 81 → Tidy p → faultyAt p n ≡ false
+unfolding faultyAt
+tidy-cell p n lo hi t =
+    let a : anyBelow (disagrees (p .players) (colourOf (cellAt (p .board) n)) n) 2 ≡ false =
+    ap (λ (l : List Bitboard). anyBelow (disagrees l (colourOf (cellAt (p .board) n)) n) 2) (t .players) ∙ agrees colourOf 2 (p .board) n lo hi in
+    let b : anyBelow (disagrees (p .kinds) (kindOf (cellAt (p .board) n)) n) 14 ≡ false =
+    ap (λ (l : List Bitboard). anyBelow (disagrees l (kindOf (cellAt (p .board) n)) n) 14) (t .kinds) ∙ agrees kindOf 14 (p .board) n lo hi in
+    rw (t .cells n lo hi, a, b)
+
+cell-facts : (p : Position) (n : ℕ) → faultyAt p n ≡ false
+    → (goodCell (cellAt (p .board) n) ≡ true) × (anyBelow (disagrees (p .players) (colourOf (cellAt (p .board) n)) n) 2 ≡ false)
+    × (anyBelow (disagrees (p .kinds) (kindOf (cellAt (p .board) n)) n) 14 ≡ false)
+unfolding faultyAt
+cell-facts p n h =
+    let a = or-false-both (not (goodCell (cellAt (p .board) n))) _ h in
+    let b = or-false-both (anyBelow (disagrees (p .players) (colourOf (cellAt (p .board) n)) n) 2) _ (a .1) in
+    (not-false _ (a .0), b .0, b .1)
+
+module _ (p : Position) where
+  pub tidy-fault : Tidy p → firstFault p ≡ 0
+  unfolding firstFault
+  tidy-fault t =
+      first-all (faultyAt p) 0 81 (λ n a b. let r = reading-range n (omega arith) in tidy-cell p (readingAt n) (r .0) (r .1) t)
+
+  no-fault : firstFault p ≡ 0 → (n : ℕ) → 1 ≤ n → n ≤ 81 → faultyAt p n ≡ false
+  unfolding firstFault
+  no-fault h n lo hi =
+      let e : 0 + ((n - 1) % 9 * 9 + (8 - (n - 1) / 9)) ≡ (n - 1) % 9 * 9 + (8 - (n - 1) / 9) = omega arith in
+      rw (e, reading-all n lo hi) at (first-none (faultyAt p) 0 81 (omega arith) h ((n - 1) % 9 * 9 + (8 - (n - 1) / 9)) (omega arith))
+
+  -- a sound position is tidy
+  pub sound-tidy : length (p .players) ≡ 2 → length (p .kinds) ≡ 14 → sound p ≡ true → Tidy p
+  unfolding sound faultElsewhere
+  sound-tidy two fourteen h =
+      let q = both (eqb (firstFault p) 0) (not (faultElsewhere p)) h in
+      let first : firstFault p ≡ 0 = eqb-true (firstFault p) 0 (q .0) in
+      let a = or-false-both (anyBelow (strayIn (p .players)) 2) _ (not-true (faultElsewhere p) (q .1)) in
+      let b = or-false-both (anyBelow (strayIn (p .kinds)) 14) _ (a .1) in
+      record {
+        cells = λ n lo hi. cell-facts p n (no-fault first n lo hi) .0;
+        players = sets-match colourOf 2 (p .board) (p .players) two (a .0) (λ n lo hi. cell-facts p n (no-fault first n lo hi) .1);
+        kinds = sets-match kindOf 14 (p .board) (p .kinds) fourteen (b .0) (λ n lo hi. cell-facts p n (no-fault first n lo hi) .2);
+      }
+
+  -- a tidy one is sound where no fault lies elsewhere
+  pub tidy-sound : Tidy p → sound p ≡ not (faultElsewhere p)
+  unfolding sound
+  tidy-sound t = rw (tidy-fault t)
+
+  pub tidy-strays : Tidy p → (anyBelow (strayIn (p .players)) 2 ≡ false) × (anyBelow (strayIn (p .kinds)) 14 ≡ false)
+  tidy-strays t = (
+    ap (λ (l : List Bitboard). anyBelow (strayIn l) 2) (t .players) ∙ tidy-sets colourOf 2 (p .board),
+    ap (λ (l : List Bitboard). anyBelow (strayIn l) 14) (t .kinds) ∙ tidy-sets kindOf 14 (p .board),
+  )
+
+-- ---- the squares of a king
+module _ (cells : List ℕ) (king q : ℕ) where
+  abbrev kings : Bitboard
+  kings = setOf (λ n. eqb (cellAt cells n) king)
+
+  has-king : (n : ℕ) → 1 ≤ n → n ≤ 81 → has kings n ≡ eqb (cellAt cells n) king
+  has-king n lo hi = has-setOf (λ m. eqb (cellAt cells m) king) n ∙ ap (λ (t : Bool). t && eqb (cellAt cells n) king) (board-on 9 n lo hi)
+
+  off-board : (n : ℕ) → (1 ≤ n → n ≤ 81 → has kings n ≡ false) → has kings n ≡ false
+  off-board n h = ⊎-elim (λ (o : onBoard 9 n ≡ true). let b = board-range 9 n o in h (b .0) (b .1)) (has-off kings n) (decided (onBoard 9 n))
+
+  -- it stands on q and nowhere else; nowhere where q is 0
+  Only : Type 0
+  Only = (q ≤ 81) × ((n : ℕ) → 1 ≤ n → n ≤ 81 → eqb (cellAt cells n) king ≡ eqb q n)
+
+  right-only : kingWrong cells king q ≡ false → Only
+  unfolding kingWrong Only
+  right-only h =
+      let o = or-false-both (ltb 81 q) _ h in (
+        ltb-false 81 q (o .0),
+        λ n lo hi.
+            let x : (n - 1) + 1 ≡ n = omega arith in
+            let e : eqb (cellAt cells (n - 1 + 1)) king ≡ eqb q (n - 1 + 1) =
+            beq-false _ _ (any-each (λ j. not (Bool·beq (eqb (cellAt cells (j + 1)) king) (eqb q (j + 1)))) 81 (n - 1) (o .1) (omega arith)) in
+            rw x at e,
+      )
+
+  only-right : Only → kingWrong cells king q ≡ false
+  unfolding kingWrong Only
+  only-right o =
+      rw (le-ltb 81 q (o .0))
+      (any-all (λ j. not (Bool·beq (eqb (cellAt cells (j + 1)) king) (eqb q (j + 1)))) 81 (λ j h. rw (o .1 (j + 1) (omega arith) (omega arith)) (beq-same (eqb q (j + 1)))))
+
+  none-there : Only → q ≡ 0 → (m : ℕ) → has kings m ≡ false
+  unfolding Only
+  none-there o z m = off-board m (λ lo hi. has-king m lo hi ∙ o .1 m lo hi ∙ ne-eqb q m (λ e. omega arith))
+
+  only-off : Only → kingOff kings q ≡ false
+  unfolding kingOff Only
+  only-off o = ⊎-elim some none (le-or-lt 1 q)
+    where
+      none : q < 1 → not (eqb (smallest kings) q && leb (size kings) 1) ≡ false
+      none z =
+          let e : q ≡ 0 = omega arith in
+          rw (smallest-none kings (none-there o e), size-none kings (none-there o e), eq-eqb 0 q (sym e))
+
+      some : 1 ≤ q → not (eqb (smallest kings) q && leb (size kings) 1) ≡ false
+      some l =
+          let here : has kings q ≡ true = has-king q l (o .0) ∙ o .1 q l (o .0) ∙ eq-eqb q q refl in
+          let f : First (has kings) 1 81 q =
+          record {
+            from = l;
+            to = omega arith;
+            passes = here;
+            least = λ m a b. has-king m a (omega arith) ∙ o .1 m a (omega arith) ∙ ne-eqb q m (λ e. omega arith);
+          } in
+          let w = size-without kings q l (o .0) here in
+          let z : size (withoutS q kings) ≡ 0 = size-none (withoutS q kings) (λ m. has-withoutS q kings m ∙ gone m (ℕ-discrete m q)) in
+          let s : size kings ≡ 1 = omega arith in
+          rw (smallest-at kings q f, eq-eqb q q refl, s)
+        where
+          gone : (m : ℕ) → Dec (m ≡ q) → has kings m && not (eqb m q) ≡ false
+          gone m (yes e) = ap (λ (t : Bool). has kings m && not t) (eq-eqb m q e) ∙ and-false (has kings m)
+          gone m (no d) = ap (λ (t : Bool). t && not (eqb m q)) (off-board m (λ lo hi. has-king m lo hi ∙ o .1 m lo hi ∙ ne-eqb q m (λ e. d (sym e))))
+
+  off-only : kingOff kings q ≡ false → Only
+  unfolding kingOff Only
+  off-only h =
+      let b = both (eqb (smallest kings) q) (leb (size kings) 1) (not-false _ h) in
+      let at : smallest kings ≡ q = eqb-true (smallest kings) q (b .0) in
+      let few : size kings ≤ 1 = leb-true (size kings) 1 (b .1) in
+      ⊎-elim (some at few) (none at) (smallest-is kings)
+    where
+      none : smallest kings ≡ q → (smallest kings ≡ 0) × ((m : ℕ) → has kings m ≡ false) → (q ≤ 81) × ((n : ℕ) → 1 ≤ n → n ≤ 81 → eqb (cellAt cells n) king ≡ eqb q n)
+      none at z = (omega (arith, z .0), λ n lo hi. sym (has-king n lo hi) ∙ z .1 n ∙ sym (ne-eqb q n (λ e. omega (arith, z .0))))
+
+      some : smallest kings ≡ q → size kings ≤ 1 → First (has kings) 1 81 (smallest kings) → (q ≤ 81) × ((n : ℕ) → 1 ≤ n → n ≤ 81 → eqb (cellAt cells n) king ≡ eqb q n)
+      some at few f = (omega (arith, f .to), λ n lo hi. sym (has-king n lo hi) ∙ same n lo hi (ℕ-discrete n q))
+        where
+          here : has kings q ≡ true
+          here = ap (has kings) (sym at) ∙ f .passes
+
+          same : (n : ℕ) → 1 ≤ n → n ≤ 81 → Dec (n ≡ q) → has kings n ≡ eqb q n
+          same n lo hi (yes e) = ap (has kings) e ∙ here ∙ sym (eq-eqb q n (sym e))
+          same n lo hi (no d) = ⊎-elim two (λ z. z ∙ sym (ne-eqb q n (λ e. d (sym e)))) (decided (has kings n))
+            where
+              two : has kings n ≡ true → has kings n ≡ eqb q n
+              two t =
+                  let w = size-without kings q (omega (arith, f .from)) (omega (arith, f .to)) here in
+                  let v = size-without (withoutS q kings) n lo hi (has-withoutS q kings n ∙ ap₂ (λ (x y : Bool). x && not y) t (ne-eqb n q d)) in
+                  absurd (omega arith)
+
+  pub king-law : kingOff kings q ≡ kingWrong cells king q
+  king-law = ⊎-elim wrong (λ e. only-off (right-only e) ∙ sym e) (decided (kingWrong cells king q))
+    where
+      wrong : kingWrong cells king q ≡ true → kingOff kings q ≡ kingWrong cells king q
+      wrong e = ⊎-elim (λ t. t ∙ sym e) (λ f. absurd (false≢true (sym (only-right (off-only f)) ∙ e))) (decided (kingOff kings q))
+
+-- ---- the kings of a tidy position, by its sets
+own-king : (c : ℕ) → goodCell c ≡ true → (eqb (colourOf c) 1 && eqb (kindOf c) 8 ≡ eqb c 8) × (eqb (colourOf c) 2 && eqb (kindOf c) 8 ≡ eqb c 24)
+own-king c g = go (ℕ-discrete c 0)
+  where
+    go : Dec (c ≡ 0) → (eqb (colourOf c) 1 && eqb (kindOf c) 8 ≡ eqb c 8) × (eqb (colourOf c) 2 && eqb (kindOf c) 8 ≡ eqb c 24)
+    go (yes e) =
+        let z : colourOf c ≡ 0 = ap colourOf e ∙ empty-colour in
+        (rw (z, e), rw (z, e))
+    go (no d) =
+        let p = cell-piece c g d in
+        let l = piece-low-bound c p in
+        let k = piece-kind c p in
+        ⊎-elim
+        (λ (h : c ≤ 16).
+        (rw (black-colour c l h, black-kind c h), rw (black-colour c l h) (sym (ne-eqb c 24 (λ e. omega arith)))))
+        (λ (h : 16 < c).
+        (rw (white-colour c h) (sym (ne-eqb c 8 (λ e. omega arith))), rw (white-colour c h, white-kind c h) (eqb-same (c - 16) 8 c 24 (λ e. omega arith) (λ e. omega arith))))
+        (le-or-lt c 16)
+
+module _ (p : Position) (t : Tidy p) (d e : Bitboard) where
+  pub black-kings : andS (getD (p .players) 0 d) (getD (p .kinds) 7 e) ≡ setOf (λ n. eqb (cellAt (p .board) n) 8)
+  black-kings =
+      ap₂ andS (ap (λ (l : List Bitboard). getD l 0 d) (t .players) ∙ family-at colourOf 2 (p .board) 0 d (omega arith))
+      (ap (λ (l : List Bitboard). getD l 7 e) (t .kinds) ∙ family-at kindOf 14 (p .board) 7 e (omega arith))
+      ∙ and-rules (λ n. eqb (colourOf (cellAt (p .board) n)) 1) (λ n. eqb (kindOf (cellAt (p .board) n)) 8)
+      ∙ setOf-cong (λ n. eqb (colourOf (cellAt (p .board) n)) 1 && eqb (kindOf (cellAt (p .board) n)) 8) (λ n. eqb (cellAt (p .board) n) 8)
+      (λ n o. let b = board-range 9 n o in own-king (cellAt (p .board) n) (t .cells n (b .0) (b .1)) .0)
+
+  pub white-kings : andS (getD (p .players) 1 d) (getD (p .kinds) 7 e) ≡ setOf (λ n. eqb (cellAt (p .board) n) 24)
+  white-kings =
+      ap₂ andS (ap (λ (l : List Bitboard). getD l 1 d) (t .players) ∙ family-at colourOf 2 (p .board) 1 d (omega arith))
+      (ap (λ (l : List Bitboard). getD l 7 e) (t .kinds) ∙ family-at kindOf 14 (p .board) 7 e (omega arith))
+      ∙ and-rules (λ n. eqb (colourOf (cellAt (p .board) n)) 2) (λ n. eqb (kindOf (cellAt (p .board) n)) 8)
+      ∙ setOf-cong (λ n. eqb (colourOf (cellAt (p .board) n)) 2 && eqb (kindOf (cellAt (p .board) n)) 8) (λ n. eqb (cellAt (p .board) n) 24)
+      (λ n o. let b = board-range 9 n o in own-king (cellAt (p .board) n) (t .cells n (b .0) (b .1)) .1)
+
+-- ---- the counts of a tidy position, by its sets
+good-kind : (c : ℕ) → goodCell c ≡ true → kindOf c ≤ 14
+good-kind c g = go (ℕ-discrete c 0)
+  where
+    go : Dec (c ≡ 0) → kindOf c ≤ 14
+    go (yes e) = let z = black-kind c (omega arith) in omega arith
+    go (no d) = piece-kind c (cell-piece c g d) .1
+
+-- kind κ counts as kind j + 1 where it is that kind or its promoted form
+abbrev splitTest : ℕ → ℕ → Bool
+splitTest j κ =
+    eqb (digit (eqb (kindRow κ .unpromoted) (j + 1)))
+    (digit (eqb κ (j + 1)) + digit (not (eqb (kindRow (j + 1) .promoted) 0) && eqb κ (kindRow (j + 1) .promoted)))
+
+split : (j κ : ℕ) → j < 7 → κ ≤ 14
+    → digit (eqb (kindRow κ .unpromoted) (j + 1)) ≡ digit (eqb κ (j + 1)) + digit (not (eqb (kindRow (j + 1) .promoted) 0) && eqb κ (kindRow (j + 1) .promoted))
+unfolding kindRow kinds digit
+split j κ hj hκ = eqb→eq _ _ (all-at (splitTest j) 15 (all-at (λ i. all (splitTest i) 15) 7 tt j hj) κ (omega arith))
+
+module _ (p : Position) (t : Tidy p) where
+  abbrev isKind : ℕ → ℕ → Bool
+  isKind k n = eqb (kindOf (cellAt (p .board) n)) k
+
+  kind-size : (k : ℕ) → k ≤ 14 → kindSize (p .kinds) k ≡ countOf (λ n. not (eqb k 0) && isKind k n) 1 81
+  unfolding kindSize
+  kind-size k h = go (ℕ-discrete k 0)
+    where
+      go : Dec (k ≡ 0) → cond (eqb k 0) 0 (size (getD (p .kinds) (k - 1) emptyS)) ≡ countOf (λ n. not (eqb k 0) && isKind k n) 1 81
+      go (yes e) = rw (eq-eqb k 0 e) (sym (count-none (λ n. false) 1 81 (λ m. refl)))
+      go (no d) =
+          let z : 1 + (k - 1) ≡ k = above k d in
+          rw (ne-eqb k 0 d)
+          (ap size (ap (λ (l : List Bitboard). getD l (k - 1) emptyS) (t .kinds) ∙ family-at kindOf 14 (p .board) (k - 1) emptyS (below k d h) ∙ ap (λ (i : ℕ). setOf (λ n. eqb (kindOf (cellAt (p .board) n)) i)) z)
+          ∙ size-rule (λ n. eqb (kindOf (cellAt (p .board) n)) k))
+        where
+          above : (k : ℕ) → (k ≡ 0 → ⊥) → 1 + (k - 1) ≡ k
+          above zero d = absurd (d refl)
+          above (suc k) d = omega arith
+
+          below : (k : ℕ) → (k ≡ 0 → ⊥) → k ≤ 14 → k - 1 < 14
+          below zero d h = absurd (d refl)
+          below (suc k) d h = omega arith
+
+  sets-size : (j : ℕ) → j < 7 → setsSize (p .kinds) j ≡ standing (p .board) (j + 1)
+  unfolding setsSize standing
+  sets-size j h =
+      ap₂ (λ (a b : ℕ). a + b) (kind-size (j + 1) (omega arith)) (kind-size (kindRow (j + 1) .promoted) (promoted-small (j + 1)))
+      ∙ sym (count-sum (λ n. eqb (kindRow (kindOf (cellAt (p .board) n)) .unpromoted) (j + 1)) (λ n. not (eqb (j + 1) 0) && isKind (j + 1) n)
+      (λ n. not (eqb (kindRow (j + 1) .promoted) 0) && isKind (kindRow (j + 1) .promoted) n) 1 81 (λ e l.
+      split j (kindOf (cellAt (p .board) (1 + e))) h (good-kind (cellAt (p .board) (1 + e)) (t .cells (1 + e) (omega arith) (omega arith)))
+      ∙ ap (λ (x : Bool). digit (not x && isKind (j + 1) (1 + e)) + digit (not (eqb (kindRow (j + 1) .promoted) 0) && isKind (kindRow (j + 1) .promoted) (1 + e)))
+      (sym (ne-eqb (j + 1) 0 (λ z. omega arith)))))
+
+  ltb-not : (a b : ℕ) → not (leb a b) ≡ ltb b a
+  ltb-not a b = ⊎-elim (λ (h : a ≤ b). ap not (le-leb a b h) ∙ sym (le-ltb b a h)) (λ (h : b < a). ap not (lt-leb a b h) ∙ sym (lt-ltb b a h)) (le-or-lt a b)
+
+  pub over-law : anyBelow (overBySets (p .kinds) (p .hands)) 7 ≡ anyBelow (overLimit p) 7
+  unfolding overBySets overLimit
+  over-law =
+      any-same (overBySets (p .kinds) (p .hands)) (overLimit p) 7 (λ j h.
+      ltb-not (setsSize (p .kinds) j + (getD (p .hands) j 0 + getD (p .hands) (j + 7) 0)) (kindRow (j + 1) .limit)
+      ∙ ap (λ (x : ℕ). ltb (kindRow (j + 1) .limit) (x + (getD (p .hands) j 0 + getD (p .hands) (j + 7) 0))) (sets-size j h))
+
+-- ---- what the comparison with the sets made anew says
+module _ (p : Position) (m : Marks) (of : MarksOf (p .board) m) where
+  pub tidy-bad : m .bad ≡ true → TidyTold p false
+  tidy-bad e = record { yes = λ z. absurd (false≢true z); no = λ _ t. of .bad e (t .cells) }
+
+  pub tidy-players : (a : Bool) → m .bad ≡ false → Compared (p .players) (m .players) a → a ≡ false → TidyTold p false
+  tidy-players a e q f = record { yes = λ z. absurd (false≢true z); no = λ _ t. q .differ f (t .players ∙ sym (of .players e)) }
+
+  pub tidy-kinds : (a r : Bool) → m .bad ≡ false → Compared (p .players) (m .players) a → a ≡ true → Compared (p .kinds) (m .kinds) r → TidyTold p r
+  tidy-kinds a r e q f k =
+      record {
+        yes = λ z. record { cells = of .good e; players = q .same f ∙ of .players e; kinds = k .same z ∙ of .kinds e };
+        no = λ z t. k .differ z (t .kinds ∙ sym (of .kinds e));
+      }
+
+-- ---- the faults elsewhere of a tidy position
+pub elsewhere-tidy : (p : Position) → Tidy p
+    → faultElsewhere p
+    ≡ kingWrong (p .board) 8 (p .bking)
+    || (kingWrong (p .board) 24 (p .wking) || (anyBelow (overLimit p) 7 || (not (goodColour (p .side)) || (eqb (p .ply) 0 || not (goodLast (p .last))))))
+unfolding faultElsewhere
+elsewhere-tidy p t = let s = tidy-strays p t in rw (s .0, s .1)
+
+-- ---- the soundness test's answer
+pub told-sound : (p : Position) → sound p ≡ true → record { number = 0; square = 0 } ≡ soundnessTold p
+unfolding soundnessTold toldQuery toldBy queryFacts firstFact
+told-sound p e = rw e
+
+pub told-unsound : (p : Position) → sound p ≡ false → record { number = 1; square = firstFault p } ≡ soundnessTold p
+unfolding soundnessTold toldQuery toldBy queryFacts firstFact
+told-unsound p e = rw e
+
+pub untidy-unsound : (p : Position) → length (p .players) ≡ 2 → length (p .kinds) ≡ 14 → (Tidy p → ⊥) → sound p ≡ false
+untidy-unsound p two fourteen d = ⊎-elim (λ e. absurd (d (sound-tidy p two fourteen e))) (λ e. e) (decided (sound p))
+
+pub told-bad : (p : Position) (bad : Bool) → bad ≡ true → record { number = 2; square = 0 } ≡ toldQuery bad p
+unfolding toldQuery toldBy queryFacts firstFact
+told-bad p bad e = rw e
+
+pub told-query : (p : Position) (bad : Bool) → bad ≡ false → soundnessTold p ≡ toldQuery bad p
+unfolding soundnessTold
+told-query p bad e = rw e

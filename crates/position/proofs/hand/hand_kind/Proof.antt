@@ -1,0 +1,19 @@
+use mathlib.Core.Path.{sym, ap, _∙_}
+use Rattle.squares.specs.Answers.{formGiven}
+use Rattle.squares.specs.declared.answers.FormAnswer.{FormAnswer}
+use Rattle.position.proofs.Pieces.{held-value}
+use borrow.Author.Needs.{needs}
+use Rattle.position.proofs.hand.hand_kind.Statement.{statement}
+use Rattle.position.proofs.hand.hand_kind.Tie as tie
+
+returns : tie.Need-returns
+returns c = ap (λ (r : FormAnswer). formGiven r .value) (sym (c .before .k .given .1)) ∙ rw (← c .before .before .before .before .kind-of .ensures) (held-value (c .before .before .before .hand-kind .result) _ (c .before .before .before .hand-kind .ensures))
+
+returns-2 : tie.Need-returns-2
+returns-2 c = ap (λ (r : FormAnswer). formGiven r .value) (sym (c .enum-told .given .1)) ∙ rw (← c .before .before .before .kind-of .ensures) (held-value (c .before .before .hand-kind .result) _ (c .before .before .hand-kind .ensures))
+
+returns-3 : tie.Need-returns-3
+returns-3 c = ap (λ (r : FormAnswer). formGiven r .value) (sym (c .enum-told2 .given .1)) ∙ rw (← c .before .before .before .kind-of .ensures) (held-value (c .before .before .hand-kind .result) _ (c .before .before .hand-kind .ensures))
+
+pub hand-kind-spec : {M : Type 1} → statement M
+hand-kind-spec = tie.close (tie.spec (search needs) (search needs) (search needs) (search needs) (search needs) returns returns-2 returns-3)

@@ -1,0 +1,125 @@
+use mathlib.Core.Path.{_≡_, refl, sym, ap, _∙_}
+use Prim.Native.Nat.{ℕ}
+use native.Mathlib.Omega.{arith}
+use lib.ListN.{length-map}
+use Rattle.position.specs.Machine.{machine, cellAt}
+use Rattle.position.specs.Answers.{firstFact}
+use mathlib.Core.Logic.{⊎-elim}
+use Rattle.position.specs.Moves.{ruleFacts, numbersOf, arriving, held, next}
+use Rattle.position.specs.Steps.{carried}
+use Rattle.position.specs.declared.mv.Move.the-variants.{Normal}
+use Rattle.position.proofs.InOrder.{Sized}
+use Rattle.position.proofs.Ladder.{CanMove, normal-passes, rule-refuses, rule-passes}
+use Rattle.position.proofs.Kept.{normal-carried}
+use Rattle.position.proofs.Halves.{stood-nothing, stood-piece, held-nothing, normal-squares, empty-start, sound-room, normal-movable}
+use borrow.Author.Tests.{eqb-false}
+use borrow.Author.Needs.{needs}
+use Rattle.position.proofs.moves.make_normal.Statement.{statement}
+use Rattle.position.proofs.moves.make_normal.Tie as tie
+
+size : (s : tie.Start) → Sized (s .args .p)
+size s =
+    record {
+      board = omega (arith, length-map (s .args .p .board) (denote.Struct.Field.u8-field .into), s .good);
+      hands = omega (arith, length-map (s .args .p .hands) (denote.Struct.Field.u8-field .into), s .good);
+      players = omega (arith, length-map (s .args .p .players) (Rattle.squares.proofs.bitboard.Bitboard.the-type .to), s .good);
+      kinds = omega (arith, length-map (s .args .p .kinds) (Rattle.squares.proofs.bitboard.Bitboard.the-type .to), s .good);
+    }
+
+module _ (q : tie.After-known-told) where
+  abbrev start : tie.Start
+  start = q .before .before .before .before .before .before
+
+  -- what stands on the from square
+  piece : (q .before .c .given .0 .0 ≡ cellAt (start .args .p .board) (start .args .from)) × (cellAt (start .args .p .board) (start .args .from) ≡ 0 → ⊥)
+  piece = stood-piece _ _ (sym (q .before .before .before .standing .ensures) ∙ q .before .c .given .1)
+
+module _ (q : tie.After-normal-refusal) where
+  abbrev from-start : tie.Start
+  from-start = start (q .before .before .before)
+
+  number : q .normal-refusal .result
+      ≡ firstFact (ruleFacts (machine (from-start .args .p)) (Normal (from-start .args .from) (from-start .args .to) (from-start .args .promote)))
+  unfolding ruleFacts machine
+  number = rw (← q .before .cell .ensures, ← piece (q .before .before .before) .0) (q .normal-refusal .ensures)
+
+-- no fact refuses
+can : (q : tie.Else1)
+    → CanMove (machine (from-start (q .before) .args .p)) (from-start (q .before) .args .from) (from-start (q .before) .args .to) (from-start (q .before) .args .promote)
+can q = normal-passes _ _ _ _ (from-start (q .before) .pre .good) (sym (number (q .before)) ∙ q .if1 .left)
+
+-- the hands with what was taken
+module _ (q : tie.At-match2-came) where
+  abbrev passed : tie.Else1
+  passed = q .before .before .before .before
+
+  abbrev s : tie.Start
+  s = from-start (passed .before)
+
+  hands-are : q .match2 .hands ≡ held (s .args .p .side) (cellAt (s .args .p .board) (s .args .to)) (s .args .p .hands)
+  hands-are =
+      ⊎-elim
+      (λ w.
+      w .4 ∙ w .3 .ensures
+      ∙ ap (λ (t : ℕ). held (s .args .p .side) t (s .args .p .hands)) (stood-piece _ _ (sym (q .before .standing2 .ensures) ∙ w .1 .given .1) .0))
+      (λ w. w .2 ∙ held-nothing _ _ _ (stood-nothing _ (sym (q .before .standing2 .ensures) ∙ w .1 .given .1)))
+      (q .match2 .came)
+
+standing-requires : tie.Need-standing-requires
+standing-requires c κs = normal-squares _ _ _ (c .before .before .pre .good) .0
+
+returns : tie.Need-returns
+returns c = let q = c .before .before .before in
+    let s = q .before .before .before in
+    c .with-number .ensures ∙ rule-refuses _ _ (s .pre) 3 (empty-start (s .args .p) _ _ _ (stood-nothing _ (sym (q .standing .ensures) ∙ c .before .enum-told .given .1))) (eqb-false 3 0 refl)
+
+cell-requires : tie.Need-cell-requires
+cell-requires c κs = normal-squares _ _ _ (start (c .before) .pre .good) .1
+
+normal-refusal-requires : tie.Need-normal-refusal-requires
+normal-refusal-requires c κs = let q = c .before .before in λ z. piece q .1 (sym (piece q .0) ∙ z)
+
+returns-2 : tie.Need-returns-2
+returns-2 c = let q = c .before .before in c .with-number2 .ensures ∙ rule-refuses _ _ (from-start q .pre) _ (number q) (c .before .if1 .taken)
+
+standing-requires-2 : tie.Need-standing-requires-2
+standing-requires-2 c κs = normal-squares _ _ _ (from-start (c .before .before .before) .pre .good) .1
+
+hold-requires : tie.Need-hold-requires
+hold-requires c κs = let s = from-start (c .before .before .before .before .before .before .before) in sound-room (s .args .p) (size s) (s .pre .whole) _
+
+carry-requires : tie.Need-carry-requires
+carry-requires c κs = let q = passed (c .before .before) in let s = from-start (q .before) in normal-movable (s .args .p) (size s) (s .pre .whole) (omega (arith, s .good)) _ _ _ (can q)
+
+returns-3 : tie.Need-returns-3
+unfolding numbersOf next
+returns-3 c = let j = c .before .before .before .before in
+    let q = passed j in
+    let t = from-start (q .before) in
+    let e : c .before .carry .result ≡ carried (t .args .p) (t .args .from) (t .args .to) (arriving (t .args .promote) (cellAt (t .args .p .board) (t .args .from)))
+    (held (t .args .p .side) (cellAt (t .args .p .board) (t .args .to)) (t .args .p .hands)) (numbersOf (Normal (t .args .from) (t .args .to) (t .args .promote))) =
+    rw (← hands-are j, ← piece (q .before .before .before .before) .0, ← c .before .before .arrival .ensures, ← c .before .before .before .flag .ensures) (c .before .carry .ensures) in
+    c .with-number3 .ensures ∙ rule-passes _ _ (t .pre) _ (sym (number (q .before)) ∙ q .if1 .left) (e ∙ normal-carried (t .args .p) (size t) (t .pre .whole) _ _ _ (can q))
+
+pub make-normal-spec : {M : Type 1} → statement M
+make-normal-spec =
+    tie.close
+    (tie.spec
+    standing-requires
+    (search needs)
+    (search needs)
+    (search needs)
+    returns
+    cell-requires
+    normal-refusal-requires
+    (search needs)
+    returns-2
+    standing-requires-2
+    (search needs)
+    hold-requires
+    (search needs)
+    (search needs)
+    (search needs)
+    carry-requires
+    (search needs)
+    returns-3)

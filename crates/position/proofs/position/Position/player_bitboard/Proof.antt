@@ -1,0 +1,56 @@
+use mathlib.Core.Path.{_≡_, ap, _∙_}
+use mathlib.Core.Bool.{Bool, not}
+use Prim.Native.Nat.{ℕ, _+_, _-_, _≤_}
+use native.Mathlib.Omega.{arith}
+use lib.ListN.{length, length-map}
+use lib.Dec.{eqb}
+use borrow.Author.Tests.{not-false}
+use borrow.Author.Needs.{needs}
+use Rattle.squares.specs.declared.bitboard.Bitboard.{Bitboard}
+use Rattle.squares.specs.Kinds.{goodColour, colourOf}
+use Rattle.squares.specs.Sets.{setOf}
+use Rattle.squares.proofs.Laws.{colour-range}
+use Rattle.position.specs.Machine.{cellAt}
+use Rattle.position.specs.Answers.{toldQuery, colourSetAnswer}
+use Rattle.position.proofs.Asking.{done-good, done-sound, set-refused, set-done, player-set}
+use Rattle.position.proofs.position.Position.player_bitboard.Statement.{statement}
+use Rattle.position.proofs.position.Position.player_bitboard.Tie as tie
+
+module _ (s : tie.Start) where
+  two : length (s .args .t1 .players) ≡ 2
+  two = omega (arith, length-map (s .args .t1 .players) (Rattle.squares.proofs.bitboard.Bitboard.the-type .to), s .good)
+
+  fourteen : length (s .args .t1 .kinds) ≡ 14
+  fourteen = omega (arith, length-map (s .args .t1 .kinds) (Rattle.squares.proofs.bitboard.Bitboard.the-type .to), s .good)
+
+module _ (c : tie.After-told) where
+  query : c .told .result ≡ toldQuery (not (goodColour (c .before .before .args .color))) (c .before .before .args .t1)
+  query = c .told .ensures ∙ ap (λ (b : Bool). toldQuery (not b) (c .before .before .args .t1)) (c .before .is-color .ensures)
+
+module _ (c : tie.Else1) where
+  range : (1 ≤ c .before .before .before .before .args .color) × (c .before .before .before .before .args .color ≤ 2)
+  range = colour-range _ (not-false _ (done-good _ _ _ (query (c .before .before)) (c .if1 .left)))
+
+returns : tie.Need-returns
+unfolding colourSetAnswer
+returns c = rw (c .empty .ensures) (set-refused _ _ _ (query (c .before .before .before)) _ (c .before .if1 .taken))
+
+sub-at : tie.Need-sub-at
+sub-at c = range c .0
+
+element-copy-out-set : tie.Need-element-copy-out-set
+element-copy-out-set c = omega (arith, range c)
+
+returns-2 : tie.Need-returns-2
+unfolding colourSetAnswer
+returns-2 c =
+    let s = c .before .before .before .before .before in
+    let q = query (c .before .before .before) in
+    let done = c .before .if1 .left in
+    let r = range (c .before) in
+    let z : 1 + (s .args .color - 1) ≡ s .args .color = omega arith in
+    set-done _ _ _ q (λ x. eqb (colourOf x) (s .args .color)) _ done
+    (player-set (s .args .t1) (two s) (fourteen s) (done-sound _ _ _ q done) (s .args .color - 1) _ (omega arith) ∙ ap (λ (k : ℕ). setOf (λ n. eqb (colourOf (cellAt (s .args .t1 .board) n)) k)) z)
+
+pub player-bitboard-spec : {M : Type 1} → statement M
+player-bitboard-spec = tie.close (tie.spec (search needs) (search needs) (search needs) returns sub-at (search needs) (search needs) element-copy-out-set returns-2)

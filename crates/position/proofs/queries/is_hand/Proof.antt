@@ -1,0 +1,20 @@
+use native.Mathlib.Omega.{arith}
+use borrow.Author.Tests.{le-leb, lt-leb}
+use borrow.Author.Needs.{needs}
+use Rattle.position.specs.Answers.{handKindOk}
+use Rattle.position.proofs.queries.is_hand.Statement.{statement}
+use Rattle.position.proofs.queries.is_hand.Tie as tie
+
+returns : tie.Need-returns
+unfolding handKindOk
+returns c = rw (← c .before .before .is-color .ensures, c .before .if1 .taken, le-leb 1 (c .before .before .before .args .kind) (omega arith))
+
+returns-2 : tie.Need-returns-2
+unfolding handKindOk
+returns-2 c = rw (← c .before .before .is-color .ensures, c .before .if1 .taken, lt-leb 1 (c .before .before .before .args .kind) (omega arith))
+
+returns-3 : tie.Need-returns-3
+returns-3 c = rw (← c .before .is-color .ensures, c .if1 .left)
+
+pub is-hand-spec : {M : Type 1} → statement M
+is-hand-spec = tie.close (tie.spec (search needs) returns returns-2 returns-3)

@@ -1,0 +1,15 @@
+use borrow.Author.Tests.{eq-eqb, ne-eqb}
+use Rattle.position.specs.Answers.{kingShown}
+use Rattle.position.proofs.queries.king_at.Statement.{statement}
+use Rattle.position.proofs.queries.king_at.Tie as tie
+
+returns : tie.Need-returns
+unfolding kingShown
+returns c = rw (eq-eqb (c .before .args .q) 0 (c .if1 .taken))
+
+returns-2 : tie.Need-returns-2
+unfolding kingShown
+returns-2 c = rw (ne-eqb (c .before .args .q) 0 (c .if1 .left))
+
+pub king-at-spec : {M : Type 1} → statement M
+king-at-spec = tie.close (tie.spec returns returns-2)

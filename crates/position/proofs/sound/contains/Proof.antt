@@ -1,0 +1,19 @@
+use mathlib.Core.Path.{sym, ap, _∙_}
+use borrow.Author.Needs.{needs}
+use Rattle.squares.specs.Answers.{truthGiven}
+use Rattle.squares.proofs.Laws.{contains-told, contains-refused}
+use Rattle.position.proofs.sound.contains.Statement.{statement}
+use Rattle.position.proofs.sound.contains.Tie as tie
+
+returns : tie.Need-returns
+returns c =
+    let a = c .before .before .before .before .args in
+    contains-told (a .set) (a .n) _ (ap truthGiven (sym (c .before .is .given .1)) ∙ c .before .before .before .contains .ensures)
+
+returns-2 : tie.Need-returns-2
+returns-2 c =
+    let a = c .before .before .before .args in
+    sym (contains-refused (a .set) (a .n) _ (ap truthGiven (sym (c .enum-told .given .1)) ∙ c .before .before .contains .ensures))
+
+pub contains-spec : {M : Type 1} → statement M
+contains-spec = tie.close (tie.spec (search needs) (search needs) (search needs) returns returns-2)

@@ -1,0 +1,28 @@
+use mathlib.Core.Path.{ap₂, _∙_}
+use mathlib.Core.Bool.{Bool, _&&_}
+use lib.Dec.{eqb, leb}
+use borrow.Author.Needs.{needs}
+use Rattle.position.proofs.Elsewhere.{last-none, last-normal, last-drop, last-bad}
+use Rattle.position.proofs.sound.last_good.Statement.{statement}
+use Rattle.position.proofs.sound.last_good.Tie as tie
+
+returns : tie.Need-returns
+returns c = c .all-three .ensures ∙ last-none (c .before .before .args .last) (c .before .if1 .taken)
+
+returns-2 : tie.Need-returns-2
+returns-2 c =
+    c .all-three2 .ensures
+    ∙ ap₂ (λ (x y : Bool). x && (y && leb (c .before .before .before .before .before .args .last .promote) 1)) (c .before .before .on-board .ensures) (c .before .on-board2 .ensures)
+    ∙ last-normal (c .before .before .before .before .before .args .last) (c .before .before .before .if2 .taken)
+
+returns-3 : tie.Need-returns-3
+returns-3 c =
+    c .all-three3 .ensures
+    ∙ ap₂ (λ (x y : Bool). x && (y && eqb (c .before .before .before .before .before .before .args .last .promote) 0)) (c .before .before .is-piece .ensures) (c .before .on-board3 .ensures)
+    ∙ last-drop (c .before .before .before .before .before .before .args .last) (c .before .before .before .if3 .taken)
+
+returns-4 : tie.Need-returns-4
+returns-4 c = last-bad (c .before .before .before .args .last) (c .before .before .if1 .left) (c .before .if2 .left) (c .if3 .left)
+
+pub last-good-spec : {M : Type 1} → statement M
+last-good-spec = tie.close (tie.spec (search needs) returns (search needs) (search needs) (search needs) returns-2 (search needs) (search needs) (search needs) returns-3 returns-4)

@@ -1,0 +1,15 @@
+use Rattle.position.specs.Moves.{arriving}
+use borrow.Author.Needs.{needs}
+use Rattle.position.proofs.step.arrival.Statement.{statement}
+use Rattle.position.proofs.step.arrival.Tie as tie
+
+returns : tie.Need-returns
+unfolding arriving
+returns c = rw (c .before .if1 .taken) (c .promoted .ensures)
+
+returns-2 : tie.Need-returns-2
+unfolding arriving
+returns-2 c = rw (c .if1 .left)
+
+pub arrival-spec : {M : Type 1} → statement M
+arrival-spec = tie.close (tie.spec (search needs) returns returns-2)

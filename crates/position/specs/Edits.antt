@@ -1,0 +1,54 @@
+-- The edits: one cell, one hand count, side, ply; the facts that refuse one, and the plain machine after it.
+use Prim.Native.Nat.{ℕ, _-_}
+use mathlib.Core.Bool.{Bool, not, _&&_, cond}
+use mathlib.Core.List.{List, [], _∷_}
+use lib.ListN.{set}
+use lib.Dec.{eqb}
+use Rattle.squares.specs.Board.{onBoard}
+use Rattle.squares.specs.Kinds.{goodColour, goodCell}
+use Rattle.position.specs.Machine.{Machine, machine, full}
+use Rattle.position.specs.Sound.{sound}
+use Rattle.position.specs.Answers.{Fact, firstFact, toldBy, handAt, handKindOk}
+use Rattle.position.specs.Moves.{gives}
+use Rattle.position.specs.declared.position.Position.{Position}
+use Rattle.position.specs.declared.moves.Answer.{Answer}
+
+-- "Order: 2, then 1, then .. for an edit 13"; "13: the edit would make the position unsound": m is the machine after it
+unfoldable pub editFacts : Bool → Position → Machine → List Fact
+editFacts bad p m = gives 2 bad ∷ gives 1 (not (sound p)) ∷ gives 13 (not (sound (full m))) ∷ []
+
+-- "Every number but 0 hands back the position as given"; "the sets follow the cells", and so do the king squares
+unfoldable pub edited : Bool → Position → Machine → Answer
+edited bad p m =
+    let facts = editFacts bad p m in
+    record { told = toldBy p facts; position = cond (eqb (firstFact facts) 0) (full m) p }
+
+-- "Edits: one cell, one hand count, side, ply."; "Edits leave the last move as it was."
+unfoldable pub withCells : Machine → List ℕ → Machine
+withCells m cells = record { cells = cells; hands = m .hands; side = m .side; last = m .last; ply = m .ply }
+
+unfoldable pub withHands : Machine → List ℕ → Machine
+withHands m hands = record { cells = m .cells; hands = hands; side = m .side; last = m .last; ply = m .ply }
+
+unfoldable pub withSide : Machine → ℕ → Machine
+withSide m c = record { cells = m .cells; hands = m .hands; side = c; last = m .last; ply = m .ply }
+
+unfoldable pub withPly : Machine → ℕ → Machine
+withPly m n = record { cells = m .cells; hands = m .hands; side = m .side; last = m .last; ply = n }
+
+-- "2: a number out of range: square, .. kind, colour, cell, .. ply 0, hand kind"; the cell 0 is good: it empties the square
+unfoldable pub cellEdited : Position → ℕ → ℕ → Answer
+cellEdited p n c = edited (not (onBoard 9 n && goodCell c)) p (withCells (machine p) (set (p .board) (n - 1) c))
+
+unfoldable pub handEdited : Position → ℕ → ℕ → ℕ → Answer
+handEdited p c k count = edited (not (goodColour c && handKindOk k)) p (withHands (machine p) (set (p .hands) (handAt c k) count))
+
+unfoldable pub sideEdited : Position → ℕ → Answer
+sideEdited p c = edited (not (goodColour c)) p (withSide (machine p) c)
+
+unfoldable pub plyEdited : Position → ℕ → Answer
+plyEdited p n = edited (eqb n 0) p (withPly (machine p) n)
+
+-- of a sound position p and good numbers: q is what the edit makes of p
+unfoldable pub settled : Position → Position → Answer
+settled p q = record { told = record { number = cond (sound q) 0 13; square = 0 }; position = cond (sound q) q p }

@@ -1,0 +1,48 @@
+// What the calls on a position answer: the number and the square that goes with 1, then the value.
+use crate::mv::LastMove;
+use squares::Bitboard;
+
+pub struct Told {
+    pub number: u8,
+    pub square: u8,
+}
+
+pub enum Stands {
+    Nothing,
+    Piece(u8),
+}
+
+pub struct PieceAnswer {
+    pub told: Told,
+    pub stands: Stands,
+}
+
+pub struct SetAnswer {
+    pub told: Told,
+    pub set: Bitboard,
+}
+
+pub struct NumberAnswer {
+    pub told: Told,
+    pub value: u8,
+}
+
+pub struct PlyAnswer {
+    pub told: Told,
+    pub ply: u16,
+}
+
+pub enum KingSquare {
+    Nothing,
+    At(u8),
+}
+
+pub struct KingAnswer {
+    pub told: Told,
+    pub king: KingSquare,
+}
+
+pub struct LastAnswer {
+    pub told: Told,
+    pub last: LastMove,
+}

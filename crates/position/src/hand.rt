@@ -1,0 +1,90 @@
+// The two hands: Black's counts of the kinds 1 to 7, then White's.
+ghost use mathlib.Core.Path.{_≡_};
+ghost use Prim.Native.Nat.{_≤_, _<_};
+ghost use lib.ListN.{getD};
+ghost use Rattle.squares.specs.Kinds.{kindOf, handKind};
+ghost use Rattle.position.specs.Answers.{handAt};
+ghost use Rattle.position.specs.Moves.{held, spent};
+ghost use Rattle.position.specs.Steps.{Room, InHand, roomFor, holds};
+use crate::cells::kind_of;
+use squares::FormAnswer;
+use squares::PieceKind;
+
+// The kind as which a cell's piece is held, 0 where it is not.
+pub(crate) fn hand_kind(c: u8) -> u8
+    ensures { λ r. ⌜ r ≡ handKind (kindOf c) ⌝ }
+{
+    match PieceKind::hand_kind(kind_of(c)) {
+        FormAnswer::Form(k) => k,
+        FormAnswer::Nothing => 0,
+        FormAnswer::BadNumber => 0,
+    }
+}
+
+// Where the count of a kind, 1 to 7, stands.
+pub(crate) fn index(side: u8, k: u8) -> usize
+    requires { ⌜ (1 ≤ side) × (side ≤ 2) × (1 ≤ k) × (k ≤ 7) ⌝ }
+    ensures { λ r. ⌜ (r ≡ handAt side k) × (r < 14) ⌝ }
+{
+    ((side - 1) * 7 + (k - 1)) as usize
+}
+
+pub(crate) fn in_hand(hands: [u8; 14], side: u8, piece: u8) -> u8
+    requires { ⌜ (1 ≤ side) × (side ≤ 2) × (1 ≤ kindOf piece) ⌝ }
+    ensures { λ r. ⌜ r ≡ getD hands (handAt side (kindOf piece)) 0 ⌝ }
+{
+    let k = kind_of(piece);
+    let at = (side as usize - 1) * 7 + (k as usize - 1);
+    if at < 14 { hands[at] } else { 0 }
+}
+
+// The hands with what stood on a cell, unpromoted, in that of `side`.
+pub(crate) fn hold(hands: [u8; 14], side: u8, t: u8) -> [u8; 14]
+    requires { ⌜ Room hands side t ⌝ }
+    ensures { λ r. ⌜ r ≡ held side t hands ⌝ }
+{
+    let k = hand_kind(t);
+    if k == 0 {
+        return hands;
+    }
+    let at = index(side, k);
+    let mut out = hands;
+    out[at] = out[at] + 1;
+    out
+}
+
+pub(crate) fn spend(hands: [u8; 14], side: u8, piece: u8) -> [u8; 14]
+    requires { ⌜ InHand hands side piece ⌝ }
+    ensures { λ r. ⌜ r ≡ spent side piece hands ⌝ }
+{
+    let k = kind_of(piece);
+    let at = index(side, k);
+    let mut out = hands;
+    out[at] = out[at] - 1;
+    out
+}
+
+// Whether the hand of `side` has room for the piece of a cell.
+pub(crate) fn has_room(hands: [u8; 14], side: u8, t: u8) -> bool
+    requires { ⌜ (1 ≤ side) × (side ≤ 2) ⌝ }
+    ensures { λ r. ⌜ r ≡ roomFor side t hands ⌝ }
+{
+    let k = hand_kind(t);
+    if k == 0 {
+        return true;
+    }
+    let at = index(side, k);
+    hands[at] < 255
+}
+
+// Whether it holds `piece`.
+pub(crate) fn has_piece(hands: [u8; 14], side: u8, piece: u8) -> bool
+    requires { ⌜ (1 ≤ side) × (side ≤ 2) × (1 ≤ kindOf piece) ⌝ }
+    ensures { λ r. ⌜ r ≡ holds side piece hands ⌝ }
+{
+    if kind_of(piece) <= 7 {
+        0 < in_hand(hands, side, piece)
+    } else {
+        false
+    }
+}

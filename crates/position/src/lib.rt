@@ -1,0 +1,26 @@
+// Positions and moves: the plain machine of cells and hands, with the sets that follow them.
+mod answers;
+mod cells;
+mod edits;
+mod hand;
+mod moves;
+mod mv;
+mod position;
+mod queries;
+mod sound;
+mod step;
+
+pub use answers::KingAnswer;
+pub use answers::KingSquare;
+pub use answers::LastAnswer;
+pub use answers::NumberAnswer;
+pub use answers::PieceAnswer;
+pub use answers::PlyAnswer;
+pub use answers::SetAnswer;
+pub use answers::Stands;
+pub use answers::Told;
+pub use moves::Answer;
+pub use mv::LastMove;
+pub use mv::Move;
+pub use mv::MoveNumbers;
+pub use position::Position;

@@ -1,0 +1,202 @@
+// make_move: the refusals in their order, and the two kinds of move.
+ghost use mathlib.Core.Path.{_≡_};
+ghost use mathlib.Core.Bool.{_&&_, _||_};
+ghost use lib.Dec.{eqb, leb};
+ghost use Rattle.squares.specs.Kinds.{colourOf, kindOf, promotedPiece};
+ghost use Rattle.position.specs.Answers.{firstFact};
+ghost use Rattle.position.specs.Moves.{badMove, normalFacts, dropFacts, movePlayed};
+ghost use Rattle.position.specs.Steps.{Ready};
+use crate::answers::Stands;
+use crate::answers::Told;
+use crate::cells::cell;
+use crate::cells::color_of;
+use crate::cells::is_piece;
+use crate::cells::kind_of;
+use crate::cells::on_board;
+use crate::cells::promoted;
+use crate::cells::standing;
+use crate::hand::hold;
+use crate::hand::in_hand;
+use crate::hand::spend;
+use crate::mv::Move;
+use crate::mv::MoveNumbers;
+use crate::position::Position;
+use crate::sound::told;
+use crate::step::arrival;
+use crate::step::carry;
+use crate::step::flag;
+
+pub struct Answer {
+    pub told: Told,
+    pub position: Position,
+}
+
+// ---- the facts of a move, each by itself
+
+pub(crate) fn bad_move(m: Move) -> bool
+    ensures { λ r. ⌜ r ≡ badMove m ⌝ }
+{
+    match m {
+        Move::Normal {
+            from,
+            to,
+            promote: _,
+        } => { if on_board(from) { !on_board(to) } else { true } }
+        Move::Drop { piece, to } => { if is_piece(piece) { !on_board(to) } else { true } }
+    }
+}
+
+fn is_of(c: u8, color: u8) -> bool
+    ensures { λ r. ⌜ r ≡ eqb (colourOf c) color ⌝ }
+{
+    color_of(c) == color
+}
+
+fn has_no_form(promote: bool, c: u8) -> bool
+    ensures { λ r. ⌜ r ≡ promote && eqb (promotedPiece c) 0 ⌝ }
+{
+    if promote { promoted(c) == 0 } else { false }
+}
+
+fn is_king(c: u8) -> bool
+    ensures { λ r. ⌜ r ≡ eqb (kindOf c) 8 ⌝ }
+{
+    kind_of(c) == 8
+}
+
+fn is_promoted(c: u8) -> bool
+    ensures { λ r. ⌜ r ≡ leb 9 (kindOf c) ⌝ }
+{
+    9 <= kind_of(c)
+}
+
+fn is_not_held(piece: u8, count: u8) -> bool
+    ensures { λ r. ⌜ r ≡ eqb (kindOf piece) 8 || eqb count 0 ⌝ }
+{
+    if is_king(piece) { true } else { count == 0 }
+}
+
+fn is_last(ply: u16) -> bool
+    ensures { λ r. ⌜ r ≡ eqb ply 65535 ⌝ }
+{
+    ply == 65535
+}
+
+// The number that refuses a piece `c` to go where `t` stands, 0 where none does.
+fn normal_refusal(c: u8, t: u8, promote: bool, side: u8, ply: u16) -> u8
+    requires { ⌜ (c ≡ 0 → ⊥) ⌝ }
+    ensures { λ r. ⌜ r ≡ firstFact (normalFacts c t promote side ply) ⌝ }
+{
+    if !is_of(c, side) {
+        return 4;
+    }
+    if has_no_form(promote, c) {
+        return 5;
+    }
+    if is_of(t, side) {
+        return 6;
+    }
+    if is_king(t) {
+        return 7;
+    }
+    if is_last(ply) {
+        return 11;
+    }
+    0
+}
+
+// The number that refuses to drop `piece`, of which `count` are in hand, where `t` stands, 0 where none does.
+fn drop_refusal(piece: u8, t: u8, count: u8, side: u8, ply: u16) -> u8
+    ensures { λ r. ⌜ r ≡ firstFact (dropFacts piece t count side ply) ⌝ }
+{
+    if !is_of(piece, side) {
+        return 4;
+    }
+    if is_promoted(piece) {
+        return 8;
+    }
+    if t != 0 {
+        return 9;
+    }
+    if is_not_held(piece, count) {
+        return 10;
+    }
+    if is_last(ply) {
+        return 11;
+    }
+    0
+}
+
+// ---- the two halves, of a sound position and good numbers
+
+pub(crate) fn with_number(number: u8, p: Position) -> Answer
+    ensures { λ r. ⌜ r ≡ record { told = record { number = number; square = 0 }; position = p } ⌝ }
+{
+    let told = Told { number, square: 0 };
+    Answer { told, position: p }
+}
+
+fn make_normal(p: Position, from: u8, to: u8, promote: bool) -> Answer
+    requires { ⌜ Ready p (Move.Normal from to promote) ⌝ }
+    ensures { λ r. ⌜ r ≡ movePlayed p (Move.Normal from to promote) ⌝ }
+{
+    let board = p.board;
+    let Stands::Piece(c) = standing(&board, from) else {
+        return with_number(3, p);
+    };
+    let number = normal_refusal(c, cell(&board, to), promote, p.side, p.ply);
+    if number != 0 {
+        return with_number(number, p);
+    }
+    let mut hands = p.hands;
+    if let Stands::Piece(t) = standing(&board, to) {
+        let more = hold(hands, p.side, t);
+        hands = more;
+    }
+    let last = MoveNumbers {
+        tag: 1,
+        a: from,
+        b: to,
+        promote: flag(promote),
+    };
+    with_number(0, carry(p, from, to, arrival(promote, c), hands, last))
+}
+
+fn make_drop(p: Position, piece: u8, to: u8) -> Answer
+    requires { ⌜ Ready p (Move.Drop piece to) ⌝ }
+    ensures { λ r. ⌜ r ≡ movePlayed p (Move.Drop piece to) ⌝ }
+{
+    let board = p.board;
+    let hands = p.hands;
+    let count = in_hand(hands, p.side, piece);
+    let refusal = drop_refusal(piece, cell(&board, to), count, p.side, p.ply);
+    if refusal != 0 {
+        return with_number(refusal, p);
+    }
+    let hands = spend(hands, p.side, piece);
+    let last = MoveNumbers {
+        tag: 2,
+        a: piece,
+        b: to,
+        promote: 0,
+    };
+    with_number(0, carry(p, to, to, piece, hands, last))
+}
+
+impl Position {
+    pub fn make_move(self, m: Move) -> Answer
+        ensures { λ r. ⌜ r ≡ movePlayed self m ⌝ }
+    {
+        let first = told(bad_move(m), self);
+        if first.number != 0 {
+            return Answer {
+                told: first,
+                position: self,
+            };
+        }
+        match m {
+            Move::Normal { from, to, promote } => make_normal(self, from, to, promote),
+            Move::Drop { piece, to } => make_drop(self, piece, to),
+        }
+    }
+}
