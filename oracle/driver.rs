@@ -2,7 +2,10 @@
 //! A line outside document 01's shared domain is answered by `-`. With `--any` the crate is asked there too,
 //! except where the call would be undefined behaviour.
 
+mod names;
 mod numbers;
+mod position;
+mod positions;
 mod sets;
 
 use std::io::{self, BufRead, BufWriter, Write};
@@ -31,6 +34,7 @@ fn main() -> io::Result<()> {
 fn answer(case: &[u64], any: bool) -> Option<Vec<u64>> {
     match case[0] {
         1..=17 => sets::answer(case, any),
+        20..=38 => positions::answer(case, any),
         _ => None,
     }
 }

@@ -17,11 +17,6 @@ fn number(digits: &[u8]) -> Option<u64> {
     })
 }
 
-/// A number of a place that takes 0..255; nothing where it is past that range.
-pub fn byte(number: u64) -> Option<u8> {
-    number.try_into().ok()
-}
-
 /// Writes an answer line; `-` where there is no answer to compare with.
 pub fn emit(out: &mut impl Write, answer: Option<&[u64]>) -> io::Result<()> {
     match answer {

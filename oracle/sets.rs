@@ -1,38 +1,20 @@
 //! Ops 1 to 17: sets of squares, squares and kinds.
 
-use crate::numbers::byte;
+use crate::names::{byte, kind, kind_number, words};
 use shogi_core::{Bitboard, Color, PartialPosition, Piece, PieceKind, Square, ToUsi};
 
 /// The bits of each word that are squares; the others are stray.
 const FIRST: u64 = (1 << 63) - 1;
 const SECOND: u64 = (1 << 18) - 1;
 
-/// Document 01's kinds from number 1 on.
-const KINDS: [PieceKind; 14] = [
-    PieceKind::Pawn,
-    PieceKind::Lance,
-    PieceKind::Knight,
-    PieceKind::Silver,
-    PieceKind::Gold,
-    PieceKind::Bishop,
-    PieceKind::Rook,
-    PieceKind::King,
-    PieceKind::ProPawn,
-    PieceKind::ProLance,
-    PieceKind::ProKnight,
-    PieceKind::ProSilver,
-    PieceKind::ProBishop,
-    PieceKind::ProRook,
-];
-
 /// The crate's answer to a case; nothing where it is not shared.
 /// With `any`, it is nothing only where the crate has no such call or the call is undefined behaviour.
 pub fn answer(case: &[u64], any: bool) -> Option<Vec<u64>> {
     let set = |first, second| set(first, second, any);
     Some(match *case {
-        [1] => words(Bitboard::empty()),
+        [1] => given(Bitboard::empty()),
         [2, n] => match Square::from_u8(byte(n)?) {
-            Some(square) => words(Bitboard::single(square)),
+            Some(square) => given(Bitboard::single(square)),
             None => vec![2, 0, 0],
         },
         [3, a, b] => vec![0, set(a, b)?.count().into()],
@@ -43,14 +25,14 @@ pub fn answer(case: &[u64], any: bool) -> Option<Vec<u64>> {
                 None => vec![2, 0],
             }
         }
-        [5, a, b, c, d] => words(set(a, b)?.or(set(c, d)?)),
-        [6, a, b, c, d] => words(set(a, b)?.and(set(c, d)?)),
-        [7, a, b, c, d] => words(set(a, b)?.xor(set(c, d)?)),
-        [8, a, b, c, d] => words(set(a, b)?.andnot(set(c, d)?)),
-        [9, a, b] => words(!set(a, b)?),
+        [5, a, b, c, d] => given(set(a, b)?.or(set(c, d)?)),
+        [6, a, b, c, d] => given(set(a, b)?.and(set(c, d)?)),
+        [7, a, b, c, d] => given(set(a, b)?.xor(set(c, d)?)),
+        [8, a, b, c, d] => given(set(a, b)?.andnot(set(c, d)?)),
+        [9, a, b] => given(!set(a, b)?),
         // Safety: the file is in 1..=9 and the pattern below 512.
         [10, file @ 1..=9, pattern @ 0..=511] => {
-            words(unsafe { Bitboard::from_file_unchecked(file as u8, pattern as u16) })
+            given(unsafe { Bitboard::from_file_unchecked(file as u8, pattern as u16) })
         }
         // Safety: the file is in 1..=9.
         [11, a, b, file @ 1..=9] => {
@@ -59,14 +41,15 @@ pub fn answer(case: &[u64], any: bool) -> Option<Vec<u64>> {
                 unsafe { set(a, b)?.get_file_unchecked(file as u8) }.into(),
             ]
         }
-        [12, a, b] => words(set(a, b)?.flip()),
+        [12, a, b] => given(set(a, b)?.flip()),
         [13, a, b] => {
             let mut rest = set(a, b)?;
             if a == 0 && b != 0 && b & SECOND == 0 {
                 return None; // The lowest bit lies past 9I: the crate would make a square of it, which is undefined.
             }
             let square = rest.pop().map_or(0, |square| square.index().into());
-            vec![0, square, first(rest), second(rest)]
+            let [first, second] = words(rest);
+            vec![0, square, first, second]
         }
         [14, a, b, direction @ 1..=4, distance @ 0..=9] => {
             let set = set(a, b)?;
@@ -77,7 +60,7 @@ pub fn answer(case: &[u64], any: bool) -> Option<Vec<u64>> {
             }
             let distance = distance as u8;
             // Safety: the distance is in 0..=9.
-            words(unsafe {
+            given(unsafe {
                 match direction {
                     1 => set.shift_down(distance),
                     2 => set.shift_up(distance),
@@ -121,31 +104,9 @@ fn set(first: u64, second: u64, any: bool) -> Option<Bitboard> {
     Some(unsafe { Bitboard::from_u128_unchecked(u128::from(second) << 64 | u128::from(first)) })
 }
 
-fn first(set: Bitboard) -> u64 {
-    set.to_u128() as u64
-}
-
-fn second(set: Bitboard) -> u64 {
-    (set.to_u128() >> 64) as u64
-}
-
-fn words(set: Bitboard) -> Vec<u64> {
-    vec![0, first(set), second(set)]
-}
-
-/// Document 01 has its own numbers for kinds, so they are matched by name, but refused as the crate refuses.
-fn kind(number: u8) -> Option<PieceKind> {
-    let named = KINDS.get(usize::from(number).wrapping_sub(1)).copied();
-    assert_eq!(named, PieceKind::from_u8(number));
-    named
-}
-
-fn kind_number(kind: PieceKind) -> u64 {
-    (1..)
-        .zip(KINDS)
-        .find(|&(_, named)| named == kind)
-        .unwrap()
-        .0
+fn given(set: Bitboard) -> Vec<u64> {
+    let [first, second] = words(set);
+    vec![0, first, second]
 }
 
 /// The crate knows no full set, but its start position holds one. A king's limit is for one colour.

@@ -1,8 +1,11 @@
 // Reads case lines on standard input, and writes an answer line for each on standard output.
+mod edit_ops;
 mod emit;
 mod number_ops;
 mod numbers;
 mod ops;
+mod position_ops;
+mod positions;
 mod scan;
 mod set_ops;
 

@@ -46,3 +46,11 @@ pub fn put(nums: &mut Numbers, at: usize, x: u64) -> usize {
     }
     at
 }
+
+pub fn put_u8(nums: &mut Numbers, at: usize, x: u8) -> usize {
+    put(nums, at, x as u64)
+}
+
+pub fn put_u16(nums: &mut Numbers, at: usize, x: u16) -> usize {
+    put(nums, at, x as u64)
+}

@@ -1,7 +1,9 @@
 // Which call a line asks for. The calls themselves stand in one file for each group of ops.
+use crate::edit_ops;
 use crate::number_ops;
 use crate::numbers::Numbers;
 use crate::numbers::read_u64;
+use crate::position_ops;
 use crate::set_ops;
 
 // The answer numbers of these calls.
@@ -21,6 +23,8 @@ pub fn answer(nums: &Numbers, count: usize, ans: &mut Numbers) -> usize {
     match op {
         1..=14 => set_ops::answer(op, nums, ans),
         15..=17 => number_ops::answer(op, nums, ans),
+        20..=34 => position_ops::answer(op, nums, ans),
+        35..=38 => edit_ops::answer(op, nums, ans),
         _ => MALFORMED,
     }
 }
@@ -29,11 +33,16 @@ pub fn answer(nums: &Numbers, count: usize, ans: &mut Numbers) -> usize {
 // so no op takes it.
 fn has_count(op: u64, count: usize) -> bool {
     match op {
-        1 => count == 1,
+        1 | 20 | 21 => count == 1,
         2 | 16 | 17 => count == 2,
         3 | 9 | 10 | 12 | 13 | 15 => count == 3,
         4 | 11 => count == 4,
         5..=8 | 14 => count == 5,
+        22 | 27..=30 | 33 => count == 136,
+        23..=26 | 32 | 37 | 38 => count == 137,
+        31 | 35 => count == 138,
+        34 => count == 140,
+        36 => count == 139,
         _ => false,
     }
 }
