@@ -23,7 +23,7 @@ use Rattle.position.specs.declared.position.Position.{Position}
 use Rattle.position.specs.declared.sound.Marks.{Marks}
 use Rattle.position.specs.declared.mv.MoveNumbers.{MoveNumbers}
 use Rattle.position.specs.declared.answers.Told.{Told}
-use Rattle.position.specs.declared.moves.Answer.{Answer}
+use Rattle.position.specs.declared.answers.Answer.{Answer}
 use Rattle.position.proofs.Asking.{done-good, done-sound}
 use Rattle.position.proofs.Tidiness.{black-kings, white-kings, sound-tidy}
 use Rattle.position.proofs.InOrder.{Sized, sound-full}

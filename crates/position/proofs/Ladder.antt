@@ -21,7 +21,7 @@ use Rattle.position.specs.declared.position.Position.{Position}
 use Rattle.position.specs.declared.mv.Move.{Move}
 use Rattle.position.specs.declared.mv.Move.the-variants.{Normal, Drop}
 use Rattle.position.specs.declared.answers.Told.{Told}
-use Rattle.position.specs.declared.moves.Answer.{Answer}
+use Rattle.position.specs.declared.answers.Answer.{Answer}
 use Rattle.position.proofs.Agree.{or-false-both}
 use Rattle.position.proofs.Pieces.{positive}
 

@@ -1,5 +1,5 @@
 -- What holds of make_move as it is defined: its numbers, refused calls, soundness, whole games; and the two given positions.
-use mathlib.Core.Path.{_≡_, refl, ap, _∙_}
+use mathlib.Core.Path.{_≡_, refl, sym, ap, _∙_}
 use mathlib.Core.Logic.{_⊎_, ⊎-elim}
 use Prim.Native.Nat.{ℕ, _+_, _-_, _≤_, _<_}
 use mathlib.Core.Bool.{Bool, true, false, not, cond}
@@ -22,13 +22,17 @@ use Rattle.position.specs.declared.position.Position.{Position}
 use Rattle.position.specs.declared.mv.Move.{Move}
 use Rattle.position.specs.declared.mv.Move.the-variants.{Normal, Drop}
 use Rattle.position.specs.declared.mv.LastMove.the-variants as Last
-use Rattle.position.specs.declared.moves.Answer.{Answer}
+use Rattle.position.specs.declared.answers.Answer.{Answer}
 use Rattle.position.proofs.Agree.{any-each}
 use Rattle.position.proofs.Tidiness.{family-length}
 use Rattle.position.proofs.InOrder.{king-is, InOrder, Sized, sound-full, sound-order, order-sound}
 use Rattle.position.proofs.Ladder.{never-one, normal-passes, drop-passes}
 use Rattle.position.proofs.Kept.{itself, moved-order, dropped-order}
 use Rattle.position.proofs.Exact.{Given, None, nonzero, given-first, first-given, none-first, first-none}
+
+-- ---- every promise of this crate is an equation with its definition, so any two results that it allows are equal
+pub one-answer : {A : Type 0} (definition x y : A) → x ≡ definition → y ≡ definition → x ≡ y
+one-answer definition x y e f = e ∙ sym f
 
 numbered : (p : Position) (v : Move) → nonzero (moveFacts p v) ≡ true
 unfolding moveFacts ruleFacts normalFacts dropFacts

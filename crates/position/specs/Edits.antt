@@ -11,7 +11,7 @@ use Rattle.position.specs.Sound.{sound}
 use Rattle.position.specs.Answers.{Fact, firstFact, toldBy, handAt, handKindOk}
 use Rattle.position.specs.Moves.{gives}
 use Rattle.position.specs.declared.position.Position.{Position}
-use Rattle.position.specs.declared.moves.Answer.{Answer}
+use Rattle.position.specs.declared.answers.Answer.{Answer}
 
 -- "Order: 2, then 1, then .. for an edit 13"; "13: the edit would make the position unsound": m is the machine after it
 unfoldable pub editFacts : Bool → Position → Machine → List Fact

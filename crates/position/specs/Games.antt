@@ -8,7 +8,7 @@ use Rattle.position.specs.Answers.{firstFact}
 use Rattle.position.specs.Moves.{gives, badMove, ruleFacts, next, movePlayed}
 use Rattle.position.specs.declared.position.Position.{Position}
 use Rattle.position.specs.declared.mv.Move.{Move}
-use Rattle.position.specs.declared.moves.Answer.{Answer}
+use Rattle.position.specs.declared.answers.Answer.{Answer}
 
 -- each move on the position that the call before it handed back
 unfoldable pub playedGame : Position → List Move → List Answer

@@ -13,7 +13,7 @@ use Rattle.position.specs.declared.position.Position.{Position}
 use Rattle.position.specs.declared.mv.Move.{Move}
 use Rattle.position.specs.declared.mv.Move.the-variants.{Normal, Drop}
 use Rattle.position.specs.declared.mv.MoveNumbers.{MoveNumbers}
-use Rattle.position.specs.declared.moves.Answer.{Answer}
+use Rattle.position.specs.declared.answers.Answer.{Answer}
 
 -- an answer number, and the fact for which it is given
 abbrev pub gives : ℕ → Bool → Fact

@@ -1,5 +1,6 @@
 // What the calls on a position answer: the number and the square that goes with 1, then the value.
 use crate::mv::LastMove;
+use crate::position::Position;
 use squares::Bitboard;
 
 pub struct Told {
@@ -45,4 +46,10 @@ pub struct KingAnswer {
 pub struct LastAnswer {
     pub told: Told,
     pub last: LastMove,
+}
+
+// Of a call that changes a position: the position after it, or as given.
+pub struct Answer {
+    pub told: Told,
+    pub position: Position,
 }

@@ -10,6 +10,7 @@ mod queries;
 mod sound;
 mod step;
 
+pub use answers::Answer;
 pub use answers::KingAnswer;
 pub use answers::KingSquare;
 pub use answers::LastAnswer;
@@ -19,7 +20,6 @@ pub use answers::PlyAnswer;
 pub use answers::SetAnswer;
 pub use answers::Stands;
 pub use answers::Told;
-pub use moves::Answer;
 pub use mv::LastMove;
 pub use mv::Move;
 pub use mv::MoveNumbers;

@@ -6,6 +6,7 @@ ghost use Rattle.squares.specs.Kinds.{colourOf, kindOf, promotedPiece};
 ghost use Rattle.position.specs.Answers.{firstFact};
 ghost use Rattle.position.specs.Moves.{badMove, normalFacts, dropFacts, movePlayed};
 ghost use Rattle.position.specs.Steps.{Ready};
+use crate::answers::Answer;
 use crate::answers::Stands;
 use crate::answers::Told;
 use crate::cells::cell;
@@ -25,11 +26,6 @@ use crate::sound::told;
 use crate::step::arrival;
 use crate::step::carry;
 use crate::step::flag;
-
-pub struct Answer {
-    pub told: Told,
-    pub position: Position,
-}
 
 // ---- the facts of a move, each by itself
 
