@@ -15,7 +15,7 @@ use Rattle.squares.specs.Sets.{has, emptyS}
 use Rattle.squares.proofs.Laws.{both, le-or-lt}
 use Rattle.position.specs.Sound.{anyBelow, disagrees}
 use Rattle.position.specs.Inner.{sameWords, Compared}
-use Rattle.position.proofs.Lists.{getD-any}
+use Rattle.squares.proofs.Laws.{getD-any}
 
 -- ---- some number below k
 pub any-none : (f : ℕ → Bool) → anyBelow f 0 ≡ false

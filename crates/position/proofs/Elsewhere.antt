@@ -1,7 +1,7 @@
 -- The faults that are no cell's: kings, counts, the last move.
 use mathlib.Core.Path.{_≡_, refl, sym, ap, _∙_}
-use Prim.Native.Nat.{ℕ, zero, suc, _+_, _≤_, _<_}
-use mathlib.Core.Bool.{Bool, true, false, _&&_, not, or-false}
+use Prim.Native.Nat.{ℕ, zero, suc, _+_, _-_, _≤_, _<_}
+use mathlib.Core.Bool.{Bool, true, false, _&&_, not, or-false, true≢false}
 use mathlib.Core.List.{List}
 use native.Mathlib.Omega.{arith}
 use lib.ListN.{getD}
@@ -9,12 +9,12 @@ use lib.Dec.{eqb, leb}
 use borrow.Author.Tests.{eq-eqb, ne-eqb, le-leb, lt-leb}
 use Rattle.squares.specs.declared.bitboard.Bitboard.{Bitboard}
 use Rattle.squares.specs.Board.{onBoard}
-use Rattle.squares.specs.Kinds.{kindRow, goodPiece}
+use Rattle.squares.specs.Kinds.{kindRow, goodKind, goodPiece}
 use Rattle.squares.specs.Sets.{size, isEmpty, smallest}
-use Rattle.squares.specs.Answers.{popAnswer}
-use Rattle.squares.proofs.Laws.{eqb-same, empty-size, pop-square, pop-nothing, smallest-at, smallest-none, size-none}
+use Rattle.squares.specs.Answers.{FormValue, formIf, promotedAnswer, popAnswer}
+use Rattle.squares.proofs.Laws.{eqb-same, promoted-small, promoted-told, promoted-none, promoted-refused, empty-size, pop-square, pop-nothing, smallest-at, smallest-none, size-none}
 use Rattle.position.specs.Sound.{goodLast}
-use Rattle.position.specs.Inner.{kingOff, kindSize, setsSize, overBySets}
+use Rattle.position.specs.Inner.{kingOff, promotedAt, setsSize, overBySets}
 use Rattle.position.specs.declared.mv.MoveNumbers.{MoveNumbers}
 
 -- ---- the last move, by its tag
@@ -61,15 +61,43 @@ module _ (s : Bitboard) (q : ℕ) where
       and-yes true = refl
       and-yes false = refl
 
+-- ---- where a promoted kind's set stands
+module _ (j : ℕ) (small : j < 7) where
+  place-none : kindRow (j + 1) .promoted ≡ 0 → (j ≡ promotedAt j) × (j < 14)
+  unfolding promotedAt
+  place-none e = (rw (eq-eqb _ 0 e), omega arith)
+
+  pub place-nothing : record { number = 0; found = false; value = 0 } ≡ promotedAnswer (j + 1) → (j ≡ promotedAt j) × (j < 14)
+  place-nothing e = place-none (promoted-none (j + 1) e)
+
+  pub place-refused : record { number = 2; found = false; value = 0 } ≡ promotedAnswer (j + 1) → (j ≡ promotedAt j) × (j < 14)
+  place-refused e = place-none (promoted-refused (j + 1) e)
+
+  pub promoted-some : (v : ℕ) → record { number = 0; found = true; value = v } ≡ promotedAnswer (j + 1) → 1 ≤ v
+  unfolding promotedAnswer
+  promoted-some v e = some (goodKind (j + 1)) (kindRow (j + 1) .promoted) e
+    where
+      some : (t : Bool) (w : ℕ) → record { number = 0; found = true; value = v } ≡ formIf t w → 1 ≤ v
+      some true zero q = absurd (true≢false (ap (λ (x : FormValue). x .found) q))
+      some true (suc w) q = let z : v ≡ suc w = ap (λ (x : FormValue). x .value) q in omega arith
+      some false w q = absurd (true≢false (ap (λ (x : FormValue). x .found) q))
+
+  pub place-form : (v : ℕ) → record { number = 0; found = true; value = v } ≡ promotedAnswer (j + 1) → (v - 1 ≡ promotedAt j) × (v - 1 < 14)
+  unfolding promotedAt
+  place-form v e =
+      let z : v ≡ kindRow (j + 1) .promoted = promoted-told (j + 1) v e in
+      let l = promoted-some v e in
+      (rw (← z) (rw (ne-eqb v 0 (λ q. omega arith))), omega (arith, promoted-small (j + 1)))
+
 -- ---- the counts
-module _ (kinds : List Bitboard) (hands : List ℕ) (j a b h k l : ℕ) (ea : a ≡ kindSize kinds (j + 1)) (eb : b ≡ kindSize kinds (kindRow (j + 1) .promoted))
-    (eh : h ≡ getD hands j 0) (ek : k ≡ getD hands (j + 7) 0) (el : l ≡ kindRow (j + 1) .limit) where
-  sums : overBySets kinds hands j ≡ not (leb (a + b + (h + k)) l)
-  unfolding overBySets setsSize
-  sums = rw (ea, eb, eh, ek, el)
+module _ (kinds : List Bitboard) (hands : List ℕ) (j a h k l : ℕ) (ea : a ≡ setsSize kinds j) (eh : h ≡ getD hands j 0) (ek : k ≡ getD hands (j + 7) 0)
+    (el : l ≡ kindRow (j + 1) .limit) where
+  sums : overBySets kinds hands j ≡ not (leb (a + (h + k)) l)
+  unfolding overBySets
+  sums = rw (ea, eh, ek, el)
 
-  pub over-yes : l < a + b + (h + k) → overBySets kinds hands j ≡ true
-  over-yes q = sums ∙ ap not (lt-leb (a + b + (h + k)) l q)
+  pub over-yes : l < a + (h + k) → overBySets kinds hands j ≡ true
+  over-yes q = sums ∙ ap not (lt-leb (a + (h + k)) l q)
 
-  pub over-no : a + b + (h + k) ≤ l → overBySets kinds hands j ≡ false
-  over-no q = sums ∙ ap not (le-leb (a + b + (h + k)) l q)
+  pub over-no : a + (h + k) ≤ l → overBySets kinds hands j ≡ false
+  over-no q = sums ∙ ap not (le-leb (a + (h + k)) l q)

@@ -1,5 +1,4 @@
 -- Crates above cite Laws alone.
-mod Lists
 mod Marking
 mod Agree
 mod Reading

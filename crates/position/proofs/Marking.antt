@@ -1,129 +1,134 @@
--- The sets that the cells make, square by square.
-use mathlib.Core.Path.{_≡_, refl, sym, ap, _∙_}
-use Prim.Native.Nat.{ℕ, _+_, _-_, _≤_, _<_}
-use mathlib.Core.Bool.{Bool, true, false, _&&_, _||_, and-false, or-false, true≢false, false≢true}
-use mathlib.Core.Logic.{⊎-elim}
-use mathlib.Core.List.{List}
+-- The colour and kind sets that the cells make, from the sets by cell number.
+use mathlib.Core.Path.{_≡_, refl, sym, ap, ap₂, _∙_}
+use Prim.Native.Nat.{ℕ, _+_, _≤_, _<_}
+use mathlib.Core.Bool.{Bool, true, false, not, _&&_, _||_, Bool·beq, or-false, true≢false, false≢true}
+use mathlib.Core.Logic.{_⊎_, inl, inr, ⊎-elim}
+use mathlib.Core.List.{List, [], _∷_}
 use native.Mathlib.Omega.{arith}
 use native.Mathlib.Decide.{ℕ-discrete}
-use lib.ListN.{length, getD, set}
-use lib.Dec.{eqb, leb}
-use borrow.Author.Tests.{eq-eqb, ne-eqb, le-leb, lt-leb}
+use lib.Arith.{lt-of-le-ne}
+use lib.ListN.{getD}
+use lib.Dec.{eqb, leb, ltb}
+use borrow.Author.Tests.{eq-eqb, ne-eqb, le-leb, lt-leb, lt-ltb, le-ltb, not-false, not-true}
 use Rattle.squares.specs.declared.bitboard.Bitboard.{Bitboard}
-use Rattle.squares.specs.Kinds.{goodCell, colourOf, kindOf}
-use Rattle.squares.specs.Sets.{setOf, emptyS, orS, singleS}
-use Rattle.squares.proofs.Laws.{le-or-lt, setOf-cong, single-rule, or-rules, board-range}
+use Rattle.squares.specs.Board.{onBoard}
+use Rattle.squares.specs.Kinds.{goodKind, goodCell, goodPiece, colourOf, kindOf}
+use Rattle.squares.specs.Sets.{has, setOf, emptyS, orS, isEmpty, cellMark}
+use Rattle.squares.proofs.Laws.{le-or-lt, all-at, allFrom, good-cells, bad-cells, setOf-cong, has-setOf, has-off, empty-rule, or-rules, board-on, board-range, decided, by-cell-at, by-cell-last, empty-none, empty-has, tab-same}
 use Rattle.position.specs.Machine.{tab, cellAt, family}
-use Rattle.position.specs.Inner.{MarksOf}
-use Rattle.position.proofs.Lists.{length-tab, getD-tab, set-tab, tab-same}
+use Rattle.position.specs.Inner.{AllGood, MarksOf}
 
-leb-past : (n i : ℕ) → (n ≡ i + 1 → ⊥) → leb n i ≡ leb n (i + 1)
-leb-past n i d =
-    ⊎-elim (λ (p : n ≤ i). le-leb n i p ∙ sym (le-leb n (i + 1) (omega arith)))
-    (λ (p : i < n). lt-leb n i p ∙ sym (lt-leb n (i + 1) (⊎-elim (λ (q : n ≤ i + 1). absurd (d (omega arith))) (λ (q : i + 1 < n). q) (le-or-lt n (i + 1)))))
-    (le-or-lt n i)
+-- ---- the numbers from lo on, k of them
+abbrev within : ℕ → ℕ → ℕ → Bool
+within lo k c = leb lo c && ltb c (lo + k)
 
-module _ (mark : ℕ → ℕ) (cells : List ℕ) where
-  -- the squares up to i whose cell has the mark k
-  unfoldable pub markedTo : ℕ → ℕ → Bitboard
-  markedTo i k = setOf (λ n. leb n i && eqb (mark (cellAt cells n)) k)
+within-none : (lo c : ℕ) → false ≡ within lo 0 c
+within-none lo c =
+    ⊎-elim (λ (h : lo ≤ c). rw (le-leb lo c h, le-ltb c (lo + 0) (omega arith))) (λ (h : c < lo). rw (lt-leb lo c h)) (le-or-lt lo c)
 
-  marked-none : (k : ℕ) → emptyS ≡ markedTo 0 k
-  unfolding markedTo emptyS
-  marked-none k =
-      setOf-cong (λ n. false) (λ n. leb n 0 && eqb (mark (cellAt cells n)) k)
-      (λ n o. let b = board-range 9 n o in sym (ap (λ (t : Bool). t && eqb (mark (cellAt cells n)) k) (lt-leb n 0 (omega arith))))
+within-more : (lo k c : ℕ) → within lo k c || eqb c (lo + k) ≡ within lo (k + 1) c
+within-more lo k c = go (ℕ-discrete c (lo + k))
+  where
+    go : Dec (c ≡ lo + k) → within lo k c || eqb c (lo + k) ≡ within lo (k + 1) c
+    go (yes e) =
+        rw (eq-eqb c (lo + k) e, le-leb lo c (omega arith), lt-ltb c (lo + (k + 1)) (omega arith), le-ltb c (lo + k) (omega arith))
+    go (no d) =
+        rw (ne-eqb c (lo + k) d)
+        (or-false (within lo k c) ∙ ap (λ (t : Bool). leb lo c && t) (below (le-or-lt c (lo + k))))
+      where
+        below : (c ≤ lo + k) ⊎ (lo + k < c) → ltb c (lo + k) ≡ ltb c (lo + (k + 1))
+        below (inl h) = lt-ltb c (lo + k) (lt-of-le-ne h d) ∙ sym (lt-ltb c (lo + (k + 1)) (omega arith))
+        below (inr h) = le-ltb c (lo + k) (omega arith) ∙ sym (le-ltb c (lo + (k + 1)) (omega arith))
 
-  marked-all : (k : ℕ) → markedTo 81 k ≡ setOf (λ n. eqb (mark (cellAt cells n)) k)
-  unfolding markedTo
-  marked-all k =
-      setOf-cong (λ n. leb n 81 && eqb (mark (cellAt cells n)) k) (λ n. eqb (mark (cellAt cells n)) k)
-      (λ n o. let b = board-range 9 n o in ap (λ (t : Bool). t && eqb (mark (cellAt cells n)) k) (le-leb n 81 (omega arith)))
-
-  -- one square more joins the set of its mark, and no other
-  marks-other : (i j : ℕ) → (mark (cellAt cells (i + 1)) ≡ j → ⊥) → markedTo i j ≡ markedTo (i + 1) j
-  unfolding markedTo
-  marks-other i j d =
-      setOf-cong (λ n. leb n i && eqb (mark (cellAt cells n)) j) (λ n. leb n (i + 1) && eqb (mark (cellAt cells n)) j) (λ n o. go n (ℕ-discrete n (i + 1)))
-    where
-      go : (n : ℕ) → Dec (n ≡ i + 1) → leb n i && eqb (mark (cellAt cells n)) j ≡ leb n (i + 1) && eqb (mark (cellAt cells n)) j
-      go n (yes e) = rw (e, ne-eqb (mark (cellAt cells (i + 1))) j d, and-false, and-false)
-      go n (no q) = ap (λ (t : Bool). t && eqb (mark (cellAt cells n)) j) (leb-past n i q)
-
-  marks-joins : (i k : ℕ) → mark (cellAt cells (i + 1)) ≡ k → orS (markedTo i k) (singleS (i + 1)) ≡ markedTo (i + 1) k
-  unfolding markedTo
-  marks-joins i k e =
-      ap (orS (markedTo i k)) (single-rule (i + 1)) ∙ or-rules (λ n. leb n i && eqb (mark (cellAt cells n)) k) (eqb (i + 1))
-      ∙ setOf-cong (λ n. (leb n i && eqb (mark (cellAt cells n)) k) || eqb (i + 1) n) (λ n. leb n (i + 1) && eqb (mark (cellAt cells n)) k)
-      (λ n o. go n (ℕ-discrete n (i + 1)))
-    where
-      go : (n : ℕ) → Dec (n ≡ i + 1) → (leb n i && eqb (mark (cellAt cells n)) k) || eqb (i + 1) n ≡ leb n (i + 1) && eqb (mark (cellAt cells n)) k
-      go n (yes q) =
-          rw (q, lt-leb (i + 1) i (omega arith), eq-eqb (i + 1) (i + 1) refl, le-leb (i + 1) (i + 1) (omega arith), eq-eqb (mark (cellAt cells (i + 1))) k e)
-      go n (no q) =
-          rw (ne-eqb (i + 1) n (λ z. q (sym z))) (or-false (leb n i && eqb (mark (cellAt cells n)) k) ∙ ap (λ (t : Bool). t && eqb (mark (cellAt cells n)) k) (leb-past n i q))
-
-  -- ---- the lists of sets, as the loop makes them
-  unfoldable pub familyTo : ℕ → ℕ → List Bitboard
-  familyTo i count = tab (markedTo i) 1 count
-
-  pub family-none : (count : ℕ) → tab (λ k. emptyS) 1 count ≡ familyTo 0 count
-  unfolding familyTo
-  family-none count = tab-same (λ k. emptyS) (markedTo 0) count (λ j a b. marked-none j)
-
-  pub family-all : (count : ℕ) → familyTo 81 count ≡ family mark count cells
-  unfolding familyTo family
-  family-all count = tab-same (markedTo 81) (λ k. setOf (λ n. eqb (mark (cellAt cells n)) k)) count (λ j a b. marked-all j)
-
-  pub family-length : (i count : ℕ) → length (familyTo i count) ≡ count
-  unfolding familyTo
-  family-length i count = length-tab (markedTo i) 1 count
-
-  here : (i : ℕ) → cellAt cells (i + 1) ≡ getD cells i 0
-  here i = let e : i + 1 - 1 ≡ i = omega arith in ap (λ (j : ℕ). getD cells j 0) e
-
-  -- square i + 1 joins set r of the list, counted from 0
-  pub family-joins : (i count r : ℕ) (sets : List Bitboard) (d b : Bitboard) → r < count → r + 1 ≡ mark (getD cells i 0) → sets ≡ familyTo i count
-      → b ≡ orS (getD sets r d) (singleS (i + 1)) → set sets r b ≡ familyTo (i + 1) count
-  unfolding familyTo
-  family-joins i count r sets d b h e f q =
-      let z : r + 1 - 1 ≡ r = omega arith in
-      let y : 1 + r ≡ r + 1 = omega arith in
-      let m : mark (cellAt cells (i + 1)) ≡ r + 1 = ap mark (here i) ∙ sym e in
-      ap (λ (l : List Bitboard). set l r b) f ∙ ap (λ (j : ℕ). set (familyTo i count) j b) (sym z)
-      ∙ set-tab (markedTo i) (markedTo (i + 1)) count (r + 1) b (omega arith) (omega arith)
-      (q ∙ ap (λ (s : Bitboard). orS s (singleS (i + 1))) (ap (λ (l : List Bitboard). getD l r d) f ∙ getD-tab (markedTo i) 1 count r d h ∙ ap (markedTo i) y) ∙ marks-joins i (r + 1) m)
-      (λ j a c w. marks-other i j (λ v. w (sym v ∙ m)))
-
-  -- an empty cell joins no set
-  pub family-skips : (i count : ℕ) → mark (getD cells i 0) ≡ 0 → familyTo i count ≡ familyTo (i + 1) count
-  unfolding familyTo
-  family-skips i count e =
-      let m : mark (cellAt cells (i + 1)) ≡ 0 = ap mark (here i) ∙ e in
-      tab-same (markedTo i) (markedTo (i + 1)) count (λ j a b. marks-other i j (λ v. omega arith))
-
--- ---- the answers of the loop
 module _ (cells : List ℕ) where
-  pub good-more : (i : ℕ) → ((n : ℕ) → 1 ≤ n → n ≤ i → goodCell (cellAt cells n) ≡ true) → goodCell (getD cells i 0) ≡ true
-      → (n : ℕ) → 1 ≤ n → n ≤ i + 1 → goodCell (cellAt cells n) ≡ true
-  good-more i g e n l h =
-      ⊎-elim (λ (p : n ≤ i). g n l p) (λ (p : i < n). let z : n - 1 ≡ i = omega arith in ap (λ (j : ℕ). goodCell (getD cells j 0)) z ∙ e) (le-or-lt n i)
+  -- ---- a colour's set, kind by kind: the squares of the k pieces from lo on
+  unfoldable pub sideTo : ℕ → ℕ → Bitboard
+  sideTo lo k = setOf (λ n. within lo k (cellAt cells n))
 
-  pub marks-bad : (i : ℕ) (ps ks : List Bitboard) → i < 81 → goodCell (getD cells i 0) ≡ false → MarksOf cells (record { players = ps; kinds = ks; bad = true })
-  marks-bad i ps ks h e =
-      record {
-        bad = λ _ g. absurd (false≢true (sym e ∙ sym (ap goodCell (here (λ x. x) cells i)) ∙ g (i + 1) (omega arith) (omega arith)));
-        good = λ z. absurd (true≢false z);
-        players = λ z. absurd (true≢false z);
-        kinds = λ z. absurd (true≢false z);
-      }
+  pub side-none : (lo : ℕ) → emptyS ≡ sideTo lo 0
+  unfolding sideTo
+  side-none lo = empty-rule ∙ setOf-cong (λ n. false) (λ n. within lo 0 (cellAt cells n)) (λ n o. within-none lo (cellAt cells n))
 
-  pub marks-good : (ps ks : List Bitboard) → ((n : ℕ) → 1 ≤ n → n ≤ 81 → goodCell (cellAt cells n) ≡ true)
-      → ps ≡ familyTo colourOf cells 81 2 → ks ≡ familyTo kindOf cells 81 14 → MarksOf cells (record { players = ps; kinds = ks; bad = false })
-  marks-good ps ks g a b =
+  pub side-more : (lo k j : ℕ) (d s a r : Bitboard) (sets : List Bitboard) → lo + k < 31 → j ≡ lo + k → sets ≡ family cellMark 32 cells → s ≡ sideTo lo k → a ≡ getD sets j d
+      → r ≡ orS s a → r ≡ sideTo lo (k + 1)
+  unfolding sideTo
+  side-more lo k j d s a r sets h i f e q z =
+      z ∙ ap₂ orS e (q ∙ ap₂ (λ (l : List Bitboard) (m : ℕ). getD l m d) f i ∙ by-cell-at cells (lo + k) d h)
+      ∙ or-rules (λ n. within lo k (cellAt cells n)) (λ n. eqb (cellAt cells n) (lo + k))
+      ∙ setOf-cong (λ n. within lo k (cellAt cells n) || eqb (cellAt cells n) (lo + k)) (λ n. within lo (k + 1) (cellAt cells n)) (λ n o. within-more lo k (cellAt cells n))
+
+  -- ---- a kind's set: the squares of its two pieces
+  unfoldable pub bothOf : ℕ → Bitboard
+  bothOf k = setOf (λ n. eqb (cellAt cells n) k || eqb (cellAt cells n) (k + 16))
+
+  pub both-of : (j : ℕ) (d e r : Bitboard) (sets : List Bitboard) → j < 14 → sets ≡ family cellMark 32 cells → r ≡ orS (getD sets (j + 1) d) (getD sets (j + 17) e)
+      → r ≡ bothOf (1 + j)
+  unfolding bothOf
+  both-of j d e r sets h f z =
+      let x : j + 1 ≡ 1 + j = omega arith in
+      let y : j + 17 ≡ 1 + j + 16 = omega arith in
+      z ∙ ap₂ orS (ap₂ (λ (l : List Bitboard) (m : ℕ). getD l m d) f x ∙ by-cell-at cells (1 + j) d (omega arith)) (ap₂ (λ (l : List Bitboard) (m : ℕ). getD l m e) f y ∙ by-cell-at cells (1 + j + 16) e (omega arith))
+      ∙ or-rules (λ n. eqb (cellAt cells n) (1 + j)) (λ n. eqb (cellAt cells n) (1 + j + 16))
+
+  -- ---- the squares of bad cells
+  pub bad-set : (d e f : Bitboard) (sets : List Bitboard) → sets ≡ family cellMark 32 cells
+      → orS (orS (getD sets 15 d) (getD sets 16 e)) (getD sets 31 f) ≡ setOf (λ n. not (goodCell (cellAt cells n)))
+  bad-set d e f sets q =
+      ap₂ orS
+      (ap₂ orS (ap (λ (l : List Bitboard). getD l 15 d) q ∙ by-cell-at cells 15 d (omega arith)) (ap (λ (l : List Bitboard). getD l 16 e) q ∙ by-cell-at cells 16 e (omega arith))
+      ∙ or-rules (λ n. eqb (cellAt cells n) 15) (λ n. eqb (cellAt cells n) 16))
+      (ap (λ (l : List Bitboard). getD l 31 f) q ∙ by-cell-last cells f)
+      ∙ or-rules (λ n. eqb (cellAt cells n) 15 || eqb (cellAt cells n) 16) (λ n. leb 31 (cellAt cells n))
+      ∙ setOf-cong (λ n. (eqb (cellAt cells n) 15 || eqb (cellAt cells n) 16) || leb 31 (cellAt cells n)) (λ n. not (goodCell (cellAt cells n))) (λ n o. bad-cells (cellAt cells n))
+
+  none-bad : isEmpty (setOf (λ n. not (goodCell (cellAt cells n)))) ≡ true → AllGood cells
+  none-bad e n lo hi =
+      not-false (goodCell (cellAt cells n))
+      (sym (ap (λ (t : Bool). t && not (goodCell (cellAt cells n))) (board-on 9 n lo hi)) ∙ sym (has-setOf (λ n. not (goodCell (cellAt cells n))) n)
+      ∙ empty-has (setOf (λ n. not (goodCell (cellAt cells n)))) e n)
+
+  all-good : AllGood cells → isEmpty (setOf (λ n. not (goodCell (cellAt cells n)))) ≡ true
+  all-good g =
+      empty-none (setOf (λ n. not (goodCell (cellAt cells n)))) (λ n.
+      has-setOf (λ n. not (goodCell (cellAt cells n))) n
+      ∙ ⊎-elim (λ (o : onBoard 9 n ≡ true). let b = board-range 9 n o in rw (o, g n (b .0) (b .1))) (λ (o : onBoard 9 n ≡ false). rw o) (decided (onBoard 9 n)))
+
+  -- ---- of good cells these are the colour and kind sets
+  module _ (good : AllGood cells) where
+    side-colour : (lo c : ℕ) → ((x : ℕ) → goodCell x ≡ true → within lo 14 x ≡ eqb (colourOf x) c) → sideTo lo 14 ≡ setOf (λ n. eqb (colourOf (cellAt cells n)) c)
+    unfolding sideTo
+    side-colour lo c same =
+        setOf-cong (λ n. within lo 14 (cellAt cells n)) (λ n. eqb (colourOf (cellAt cells n)) c)
+        (λ n o. let b = board-range 9 n o in same (cellAt cells n) (good n (b .0) (b .1)))
+
+    colours : (sideTo 1 14 ∷ sideTo 17 14 ∷ []) ≡ family colourOf 2 cells
+    unfolding family tab goodCell goodPiece goodKind kindOf colourOf
+    colours =
+        ap₂ (λ (a b : Bitboard). a ∷ b ∷ []) (side-colour 1 1 (good-cells (within 1 14) (λ x. eqb (colourOf x) 1) tt))
+        (side-colour 17 2 (good-cells (within 17 14) (λ x. eqb (colourOf x) 2) tt))
+
+    kind-test : (k x : ℕ) → k ≤ 14 → goodCell x ≡ true → eqb x k || eqb x (k + 16) ≡ eqb (kindOf x) k
+    unfolding goodCell goodPiece goodKind kindOf
+    kind-test k x h e =
+        good-cells (λ x. eqb x k || eqb x (k + 16)) (λ x. eqb (kindOf x) k)
+        (all-at (λ k. allFrom (λ x. Bool·beq (goodCell x && (eqb x k || eqb x (k + 16))) (goodCell x && eqb (kindOf x) k)) 0 31) 15 tt k (omega arith)) x e
+
+    kinds-made : tab bothOf 1 14 ≡ family kindOf 14 cells
+    unfolding family bothOf
+    kinds-made =
+        tab-same bothOf (λ k. setOf (λ n. eqb (kindOf (cellAt cells n)) k)) 14 (λ k l h.
+        setOf-cong (λ n. eqb (cellAt cells n) k || eqb (cellAt cells n) (k + 16)) (λ n. eqb (kindOf (cellAt cells n)) k)
+        (λ n o. let b = board-range 9 n o in kind-test k (cellAt cells n) h (good n (b .0) (b .1))))
+
+  pub marks-made : (bad : Bool) (black white e f g : Bitboard) (ks sets : List Bitboard) → sets ≡ family cellMark 32 cells
+      → black ≡ sideTo 1 14 → white ≡ sideTo 17 14 → ks ≡ tab bothOf 1 14 → bad ≡ not (isEmpty (orS (orS (getD sets 15 e) (getD sets 16 f)) (getD sets 31 g)))
+      → MarksOf cells (record { players = black ∷ white ∷ []; kinds = ks; bad = bad })
+  marks-made bad black white e f g ks sets s b w k z =
+      let x : bad ≡ not (isEmpty (setOf (λ n. not (goodCell (cellAt cells n))))) = z ∙ ap (λ (t : Bitboard). not (isEmpty t)) (bad-set e f g sets s) in
+      let ok : bad ≡ false → AllGood cells = λ q. none-bad (not-false _ (sym x ∙ q)) in
       record {
-        bad = λ z. absurd (false≢true z);
-        good = λ _. g;
-        players = λ _. a ∙ family-all colourOf cells 2;
-        kinds = λ _. b ∙ family-all kindOf cells 14;
+        bad = λ q a. false≢true (sym (x ∙ ap not (all-good a)) ∙ q);
+        good = ok;
+        players = λ q. ap₂ (λ (a b : Bitboard). a ∷ b ∷ []) b w ∙ colours (ok q);
+        kinds = λ q. k ∙ kinds-made (ok q);
       }

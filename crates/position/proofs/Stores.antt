@@ -15,7 +15,7 @@ use Rattle.squares.specs.Sets.{setOf, emptyS, singleS, xorS}
 use Rattle.squares.proofs.Laws.{eqb-same, le-or-lt, setOf-cong, single-rule, xor-rules, board-range}
 use Rattle.position.specs.Machine.{tab, cellAt, family}
 use Rattle.position.specs.Steps.{toggled, setsAfter}
-use Rattle.position.proofs.Lists.{length-tab, getD-tab, getD-any, set-tab, tab-same}
+use Rattle.squares.proofs.Laws.{length-tab, getD-tab, getD-any, set-tab, tab-same}
 
 -- ---- a cell that is stored, and the others
 pub cell-same : (cells : List ℕ) (n v : ℕ) → 1 ≤ n → n ≤ length cells → cellAt (set cells (n - 1) v) n ≡ v

@@ -8,21 +8,20 @@ use mathlib.Core.List.{List}
 use native.Mathlib.Omega.{arith}
 use native.Mathlib.Decide.{ℕ-discrete}
 use lib.ListN.{length, getD}
-use lib.Dec.{eqb, leb, ltb, eqb→eq}
+use lib.Dec.{eqb, leb, ltb, ltb→lt}
 use borrow.Author.Tests.{eq-eqb, ne-eqb, eqb-true, le-leb, lt-leb, leb-true, ltb-false, le-ltb, lt-ltb, not-true, not-false}
 use Rattle.squares.specs.declared.bitboard.Bitboard.{Bitboard}
-use Rattle.squares.specs.Bit.{digit}
 use Rattle.squares.specs.Board.{onBoard}
 use Rattle.squares.specs.Kinds.{kinds, kindRow, goodCell, goodColour, colourOf, kindOf}
-use Rattle.squares.specs.Sets.{has, setOf, clean, emptyS, andS, countOf, size, smallest, withoutS}
-use Rattle.squares.proofs.Laws.{both, decided, eqb-same, promoted-small, count-none, all, all-at, le-or-lt, board-on, board-range, has-setOf, setOf-cong, clean-setOf, clean-has, and-rules, First, smallest-is, smallest-at, smallest-none, size-without, size-none, has-withoutS, has-off, size-rule, count-sum, cell-piece, piece-kind, piece-low-bound, black-kind, white-kind, black-colour, white-colour, empty-colour}
+use Rattle.squares.specs.Sets.{has, setOf, clean, emptyS, andS, orS, countOf, size, smallest, withoutS}
+use Rattle.squares.proofs.Laws.{both, decided, eqb-same, all-at, allFrom, rows-truth, le-or-lt, board-on, board-range, has-setOf, setOf-cong, clean-setOf, clean-has, and-rules, or-rules, First, smallest-is, smallest-at, smallest-none, size-without, size-none, has-withoutS, has-off, size-rule, count-same, cell-piece, piece-kind, piece-low-bound, black-kind, white-kind, black-colour, white-colour, empty-colour}
 use Rattle.position.specs.Machine.{cellAt, family}
 use Rattle.position.specs.Sound.{anyBelow, disagrees, faultyAt, readingAt, firstFault, strayIn, kingWrong, standing, overLimit, goodLast, faultElsewhere, sound}
-use Rattle.position.specs.Inner.{MarksOf, Compared, Tidy, TidyTold, kingOff, kindSize, setsSize, overBySets}
+use Rattle.position.specs.Inner.{MarksOf, Compared, Tidy, TidyTold, kingOff, promotedAt, setsSize, overBySets}
 use Rattle.position.specs.Answers.{firstFact, toldBy, queryFacts, toldQuery, soundnessTold}
 use Rattle.position.specs.declared.sound.Marks.{Marks}
 use Rattle.position.specs.declared.position.Position.{Position}
-use Rattle.position.proofs.Lists.{length-tab, getD-tab, is-tab}
+use Rattle.squares.proofs.Laws.{length-tab, getD-tab, is-tab}
 use Rattle.position.proofs.Agree.{any-all, any-each, any-same, or-false-both}
 use Rattle.position.proofs.Reading.{reading-range, reading-all, first-none, first-all}
 
@@ -273,49 +272,30 @@ good-kind c g = go (ℕ-discrete c 0)
     go (no d) = piece-kind c (cell-piece c g d) .1
 
 -- kind κ counts as kind j + 1 where it is that kind or its promoted form
-abbrev splitTest : ℕ → ℕ → Bool
-splitTest j κ =
-    eqb (digit (eqb (kindRow κ .unpromoted) (j + 1)))
-    (digit (eqb κ (j + 1)) + digit (not (eqb (kindRow (j + 1) .promoted) 0) && eqb κ (kindRow (j + 1) .promoted)))
+split : (j κ : ℕ) → j < 7 → κ ≤ 14 → eqb κ (1 + j) || eqb κ (1 + promotedAt j) ≡ eqb (kindRow κ .unpromoted) (j + 1)
+unfolding kindRow kinds promotedAt
+split j κ hj hκ =
+    rows-truth (λ κ. eqb κ (1 + j) || eqb κ (1 + promotedAt j)) (λ κ. eqb (kindRow κ .unpromoted) (j + 1)) 0 15
+    (all-at (λ i. allFrom (λ κ. Bool·beq (eqb κ (1 + i) || eqb κ (1 + promotedAt i)) (eqb (kindRow κ .unpromoted) (i + 1))) 0 15) 7 tt j hj) κ (omega arith) (omega arith)
 
-split : (j κ : ℕ) → j < 7 → κ ≤ 14
-    → digit (eqb (kindRow κ .unpromoted) (j + 1)) ≡ digit (eqb κ (j + 1)) + digit (not (eqb (kindRow (j + 1) .promoted) 0) && eqb κ (kindRow (j + 1) .promoted))
-unfolding kindRow kinds digit
-split j κ hj hκ = eqb→eq _ _ (all-at (splitTest j) 15 (all-at (λ i. all (splitTest i) 15) 7 tt j hj) κ (omega arith))
+pub promoted-at : (j : ℕ) → j < 7 → promotedAt j < 14
+unfolding kindRow kinds promotedAt
+promoted-at j h = ltb→lt (promotedAt j) 14 (all-at (λ i. ltb (promotedAt i) 14) 7 tt j h)
 
 module _ (p : Position) (t : Tidy p) where
   abbrev isKind : ℕ → ℕ → Bool
   isKind k n = eqb (kindOf (cellAt (p .board) n)) k
 
-  kind-size : (k : ℕ) → k ≤ 14 → kindSize (p .kinds) k ≡ countOf (λ n. not (eqb k 0) && isKind k n) 1 81
-  unfolding kindSize
-  kind-size k h = go (ℕ-discrete k 0)
-    where
-      go : Dec (k ≡ 0) → cond (eqb k 0) 0 (size (getD (p .kinds) (k - 1) emptyS)) ≡ countOf (λ n. not (eqb k 0) && isKind k n) 1 81
-      go (yes e) = rw (eq-eqb k 0 e) (sym (count-none (λ n. false) 1 81 (λ m. refl)))
-      go (no d) =
-          let z : 1 + (k - 1) ≡ k = above k d in
-          rw (ne-eqb k 0 d)
-          (ap size (ap (λ (l : List Bitboard). getD l (k - 1) emptyS) (t .kinds) ∙ family-at kindOf 14 (p .board) (k - 1) emptyS (below k d h) ∙ ap (λ (i : ℕ). setOf (λ n. eqb (kindOf (cellAt (p .board) n)) i)) z)
-          ∙ size-rule (λ n. eqb (kindOf (cellAt (p .board) n)) k))
-        where
-          above : (k : ℕ) → (k ≡ 0 → ⊥) → 1 + (k - 1) ≡ k
-          above zero d = absurd (d refl)
-          above (suc k) d = omega arith
-
-          below : (k : ℕ) → (k ≡ 0 → ⊥) → k ≤ 14 → k - 1 < 14
-          below zero d h = absurd (d refl)
-          below (suc k) d h = omega arith
+  kind-set : (j : ℕ) → j < 14 → getD (p .kinds) j emptyS ≡ setOf (isKind (1 + j))
+  kind-set j h = ap (λ (l : List Bitboard). getD l j emptyS) (t .kinds) ∙ family-at kindOf 14 (p .board) j emptyS h
 
   sets-size : (j : ℕ) → j < 7 → setsSize (p .kinds) j ≡ standing (p .board) (j + 1)
   unfolding setsSize standing
   sets-size j h =
-      ap₂ (λ (a b : ℕ). a + b) (kind-size (j + 1) (omega arith)) (kind-size (kindRow (j + 1) .promoted) (promoted-small (j + 1)))
-      ∙ sym (count-sum (λ n. eqb (kindRow (kindOf (cellAt (p .board) n)) .unpromoted) (j + 1)) (λ n. not (eqb (j + 1) 0) && isKind (j + 1) n)
-      (λ n. not (eqb (kindRow (j + 1) .promoted) 0) && isKind (kindRow (j + 1) .promoted) n) 1 81 (λ e l.
-      split j (kindOf (cellAt (p .board) (1 + e))) h (good-kind (cellAt (p .board) (1 + e)) (t .cells (1 + e) (omega arith) (omega arith)))
-      ∙ ap (λ (x : Bool). digit (not x && isKind (j + 1) (1 + e)) + digit (not (eqb (kindRow (j + 1) .promoted) 0) && isKind (kindRow (j + 1) .promoted) (1 + e)))
-      (sym (ne-eqb (j + 1) 0 (λ z. omega arith)))))
+      ap size (ap₂ orS (kind-set j (omega arith)) (kind-set (promotedAt j) (promoted-at j h)) ∙ or-rules (isKind (1 + j)) (isKind (1 + promotedAt j)))
+      ∙ size-rule (λ n. isKind (1 + j) n || isKind (1 + promotedAt j) n)
+      ∙ count-same (λ n. isKind (1 + j) n || isKind (1 + promotedAt j) n) (λ n. eqb (kindRow (kindOf (cellAt (p .board) n)) .unpromoted) (j + 1)) 1 1 81 (λ e l.
+      split j (kindOf (cellAt (p .board) (1 + e))) h (good-kind (cellAt (p .board) (1 + e)) (t .cells (1 + e) (omega arith) (omega arith))))
 
   ltb-not : (a b : ℕ) → not (leb a b) ≡ ltb b a
   ltb-not a b = ⊎-elim (λ (h : a ≤ b). ap not (le-leb a b h) ∙ sym (le-ltb b a h)) (λ (h : b < a). ap not (lt-leb a b h) ∙ sym (lt-ltb b a h)) (le-or-lt a b)

@@ -7,7 +7,7 @@ use lib.ListN.{getD}
 use lib.Dec.{eqb, leb}
 use Rattle.squares.specs.declared.bitboard.Bitboard.{Bitboard}
 use Rattle.squares.specs.Kinds.{kindRow, goodCell, goodPiece, colourOf, kindOf}
-use Rattle.squares.specs.Sets.{emptyS, size, smallest}
+use Rattle.squares.specs.Sets.{emptyS, orS, size, smallest}
 use Rattle.position.specs.Machine.{cellAt, family}
 use Rattle.position.specs.declared.position.Position.{Position}
 use Rattle.position.specs.declared.sound.Marks.{Marks}
@@ -55,12 +55,13 @@ pub record TidyTold (p : Position) (r : Bool) : Type 0 where
 unfoldable pub kingOff : Bitboard → ℕ → Bool
 kingOff s q = not (eqb (smallest s) q && leb (size s) 1)
 
--- how many of kind j + 1, and of its promoted kind, the kind sets have
-unfoldable pub kindSize : List Bitboard → ℕ → ℕ
-kindSize kinds k = cond (eqb k 0) 0 (size (getD kinds (k - 1) emptyS))
+-- where the set of kind j + 1's promoted form stands among the kind sets; its own where it has none
+unfoldable pub promotedAt : ℕ → ℕ
+promotedAt j = let k = kindRow (j + 1) .promoted in cond (eqb k 0) j (k - 1)
 
+-- how many of kind j + 1, promoted or not, the kind sets have
 unfoldable pub setsSize : List Bitboard → ℕ → ℕ
-setsSize kinds j = kindSize kinds (j + 1) + kindSize kinds (kindRow (j + 1) .promoted)
+setsSize kinds j = size (orS (getD kinds j emptyS) (getD kinds (promotedAt j) emptyS))
 
 -- the same as overLimit, by the kind sets
 unfoldable pub overBySets : List Bitboard → List ℕ → ℕ → Bool

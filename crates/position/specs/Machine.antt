@@ -6,23 +6,11 @@ use lib.Dec.{eqb}
 use Rattle.squares.specs.declared.bitboard.Bitboard.{Bitboard}
 use Rattle.squares.specs.Board.{fileOf, rankOf}
 use Rattle.squares.specs.Kinds.{colourOf, kindOf}
-use Rattle.squares.specs.Sets.{setOf, firstOf}
+use Rattle.squares.specs.Sets.{firstOf}
+pub use Rattle.squares.specs.Sets.{cellAt}
+unfoldable pub use Rattle.squares.specs.Sets.{tab, family}
 use Rattle.position.specs.declared.mv.MoveNumbers.{MoveNumbers}
 use Rattle.position.specs.declared.position.Position.{Position}
-
--- the list f i, f (i + 1), .., of k
-unfoldable pub tab : {A : Type 0} → (ℕ → A) → ℕ → ℕ → List A
-tab f i zero = []
-tab f i (suc k) = f i ∷ tab f (suc i) k
-
--- the cell of square n
-abbrev pub cellAt : List ℕ → ℕ → ℕ
-cellAt cells n = getD cells (n - 1) 0
-
--- "Two colour sets and fourteen kind sets of squares match the cells exactly, with no stray bits": for each mark from 1 to
--- count the set of the squares whose cell has that mark, its colour or its kind
-unfoldable pub family : (ℕ → ℕ) → ℕ → List ℕ → List Bitboard
-family mark count cells = tab (λ k. setOf (λ n. eqb (mark (cellAt cells n)) k)) 1 count
 
 -- "Each king square names that colour's king, or none where none stands"
 unfoldable pub kingSquare : List ℕ → ℕ → ℕ

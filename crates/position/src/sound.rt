@@ -5,10 +5,10 @@ ghost use mathlib.Core.Bool.{not, Bool·beq, _&&_};
 ghost use Prim.Native.Nat.{_+_, _<_, _≤_};
 ghost use Rattle.squares.specs.Kinds.{kindRow, colourOf, kindOf, goodPiece, goodColour};
 ghost use Rattle.squares.specs.Board.{onBoard};
-ghost use Rattle.squares.specs.Sets.{has, orS, singleS};
+ghost use Rattle.squares.specs.Sets.{has, orS, isEmpty};
 ghost use Rattle.position.specs.Sound.{anyBelow, disagrees, faultyAt, firstFault, faultElsewhere, goodLast};
 ghost use Rattle.position.specs.Answers.{soundnessTold, toldQuery};
-ghost use Rattle.position.specs.Inner.{OnBoard, GoodPiece, MarksOf, Compared, Tidy, TidyTold, sameWords, kingOff, kindSize, overBySets};
+ghost use Rattle.position.specs.Inner.{OnBoard, GoodPiece, MarksOf, Compared, Tidy, TidyTold, sameWords, kingOff, promotedAt, overBySets};
 use crate::answers::Told;
 use crate::cells::color_of;
 use crate::cells::is_color;
@@ -32,17 +32,6 @@ pub struct Marks {
     pub players: [Bitboard; 2],
     pub kinds: [Bitboard; 14],
     pub bad: bool,
-}
-
-// A set with one square more.
-fn with(set: Bitboard, n: u8) -> Bitboard
-    requires { ⌜ OnBoard n ⌝ }
-    ensures { λ r. ⌜ r ≡ orS set (singleS n) ⌝ }
-{
-    match Bitboard::single(n) {
-        SetAnswer::Set(one) => set.or(one),
-        SetAnswer::BadNumber => set,
-    }
 }
 
 fn contains(set: Bitboard, n: u8) -> bool
@@ -93,35 +82,35 @@ fn same_kinds(a: [Bitboard; 14], b: [Bitboard; 14]) -> bool
     true
 }
 
+// Whether one of three sets has a square.
+fn any_square(a: Bitboard, b: Bitboard, c: Bitboard) -> bool
+    ensures { λ r. ⌜ r ≡ not (isEmpty (orS (orS a b) c)) ⌝ }
+{
+    !a.or(b).or(c).is_empty()
+}
+
 pub(crate) fn marks_of(board: &[u8; 81]) -> Marks
     ensures { λ r. ⌜ MarksOf (now (board .entry)) r ⌝ }
 {
+    let sets = Bitboard::by_cell(board);
     let none = Bitboard::empty();
-    let mut players = [none; 2];
+    let mut black = none;
+    let mut white = none;
     let mut kinds = [none; 14];
-    for i in 0..81usize {
-        let c = board[i];
-        if !Piece::is_good(c) {
-            return Marks {
-                players,
-                kinds,
-                bad: true,
-            };
-        }
-        if c != 0 {
-            let n = (i + 1) as u8;
-            let at = color_index(c);
-            let of_color = players[at];
-            players[at] = with(of_color, n);
-            let at = kind_index(c);
-            let of_kind = kinds[at];
-            kinds[at] = with(of_kind, n);
-        }
+    for j in 0..14usize {
+        let of_black = sets[j + 1];
+        let of_white = sets[j + 17];
+        black = black.or(of_black);
+        white = white.or(of_white);
+        kinds[j] = of_black.or(of_white);
     }
+    let a = sets[15];
+    let b = sets[16];
+    let c = sets[31];
     Marks {
-        players,
+        players: [black, white],
         kinds,
-        bad: false,
+        bad: any_square(a, b, c),
     }
 }
 
@@ -214,27 +203,15 @@ fn king_wrong(set: Bitboard, q: u8) -> bool
     }
 }
 
-// How many the set of a kind has: none for kind 0.
-fn kind_count(kinds: [Bitboard; 14], kind: u8) -> u16
-    requires { ⌜ kind ≤ 14 ⌝ }
-    ensures { λ r. ⌜ (r ≡ kindSize kinds kind) × (r ≤ 81) ⌝ }
+// Where the set of a hand kind's promoted form stands among the fourteen; its own where it has none.
+fn promoted_index(j: usize) -> usize
+    requires { ⌜ j < 7 ⌝ }
+    ensures { λ r. ⌜ (r ≡ promotedAt j) × (r < 14) ⌝ }
 {
-    if kind == 0 {
-        return 0;
-    }
-    let at = (kind - 1) as usize;
-    let set = kinds[at];
-    set.count() as u16
-}
-
-// The promoted kind and the full set of a hand's kind.
-fn promoted_kind(kind: u8) -> u8
-    ensures { λ r. ⌜ r ≡ kindRow kind .promoted ⌝ }
-{
-    match PieceKind::promote(kind) {
-        FormAnswer::Form(promoted) => promoted,
-        FormAnswer::Nothing => 0,
-        FormAnswer::BadNumber => 0,
+    match PieceKind::promote((j + 1) as u8) {
+        FormAnswer::Form(promoted) => (promoted - 1) as usize,
+        FormAnswer::Nothing => j,
+        FormAnswer::BadNumber => j,
     }
 }
 
@@ -258,10 +235,11 @@ fn over_limit(kinds: [Bitboard; 14], hands: [u8; 14]) -> bool
     ensures { λ r. ⌜ r ≡ anyBelow (overBySets kinds hands) 7 ⌝ }
 {
     for j in 0..7usize {
-        let kind = (j + 1) as u8;
-        let standing = kind_count(kinds, kind) + kind_count(kinds, promoted_kind(kind));
+        let plain = kinds[j];
+        let promoted = kinds[promoted_index(j)];
+        let standing = wide(plain.or(promoted).count());
         let held = wide(hands[j]) + wide(hands[j + 7]);
-        if full_set(kind) < standing + held {
+        if full_set((j + 1) as u8) < standing + held {
             return true;
         }
     }

@@ -1,17 +1,17 @@
 -- Which numbers are no kind, no colour and no piece. The rest of what is said of kinds is read off their table, kind by kind.
 use mathlib.Core.Path.{_≡_, refl, sym, ap, _∙_}
-use mathlib.Core.Bool.{Bool, true, false, _||_, or-true, false≢true}
+use mathlib.Core.Bool.{Bool, true, false, not, _&&_, _||_, Bool·beq, or-true, false≢true}
 use mathlib.Core.Logic.{inl, inr, ⊎-elim}
 use mathlib.Core.List.{[], _∷_}
 use Prim.Native.Nat.{ℕ, zero, suc, _-_, _≤_, _<_}
 use native.Mathlib.Omega.{arith}
-use lib.Dec.{eqb, leb, leb→le}
+use lib.Dec.{T, eqb, leb, leb→le}
 use types.Run.{OneOf}
 use borrow.Author.Tests.{le-leb, lt-leb, ne-eqb, eqb-true}
 use Rattle.squares.specs.Kinds.{kinds, kindRow, goodKind, goodColour, colourOf, kindOf, goodPiece, goodCell}
 use Rattle.squares.proofs.Steps.{in-range, decided}
 use Rattle.squares.proofs.Members.{le-or-lt}
-use Rattle.squares.proofs.Tests.{all-at, rows-truth}
+use Rattle.squares.proofs.Tests.{allFrom, all-at, rows-truth}
 
 pub kind-good : (k : ℕ) → 1 ≤ k → k < 15 → goodKind k ≡ true
 unfolding goodKind
@@ -169,3 +169,22 @@ promoted-small k = ⊎-elim good (λ b. let z = row-bad k b .1 in omega arith) (
   where
     good : goodKind k ≡ true → kindRow k .promoted ≤ 14
     good g = let r = kind-range k g in small k (omega arith)
+
+-- the bad cells: 15, 16, and from 31 on
+pub bad-cells : (c : ℕ) → (eqb c 15 || eqb c 16) || leb 31 c ≡ not (goodCell c)
+unfolding goodCell goodPiece kindOf goodKind
+bad-cells c =
+    ⊎-elim (λ (l : c ≤ 30). rows-truth (λ c. (eqb c 15 || eqb c 16) || leb 31 c) (λ c. not (goodCell c)) 0 31 tt c (omega arith) (omega arith))
+    (λ (l : 30 < c).
+    ap (λ (t : Bool). (eqb c 15 || eqb c 16) || t) (le-leb 31 c (omega arith)) ∙ or-true (eqb c 15 || eqb c 16)
+    ∙ ap not (cell-bad c (omega arith) (piece-high c (omega arith))))
+    (le-or-lt c 30)
+
+-- two tests that agree at each good cell, which is computed
+pub good-cells : (f g : ℕ → Bool) → T (allFrom (λ c. Bool·beq (goodCell c && f c) (goodCell c && g c)) 0 31) → (c : ℕ) → goodCell c ≡ true → f c ≡ g c
+good-cells f g t c e =
+    let at : goodCell c && f c ≡ goodCell c && g c =
+    ⊎-elim (λ (l : c ≤ 30). rows-truth (λ c. goodCell c && f c) (λ c. goodCell c && g c) 0 31 t c (omega arith) (omega arith))
+    (λ (l : 30 < c). absurd (false≢true (cell-bad c (omega arith) (piece-high c (omega arith)) ∙ e)))
+    (le-or-lt c 30) in
+    sym (ap (λ (x : Bool). x && f c) e) ∙ at ∙ ap (λ (x : Bool). x && g c) e

@@ -1,6 +1,8 @@
 -- Sets of squares in two words, and what each operation means on them.
 use Prim.Native.Nat.{ℕ, zero, suc, _+_, _-_, _*_, _^_}
 use mathlib.Core.Bool.{Bool, false, _&&_, _||_, not, cond, Bool·beq}
+use mathlib.Core.List.{List, [], _∷_}
+use lib.ListN.{getD}
 use lib.Dec.{eqb, leb, ltb}
 use Rattle.squares.specs.Bit.{bit, digit, word}
 use Rattle.squares.specs.Board.{onBoard, fileOf, rankOf, turnedTo, opposite, step}
@@ -81,3 +83,21 @@ withoutS n s = setOf (λ m. has s m && not (eqb m n))
 -- "Shifts": a square is in the shifted set if the square d steps back was in the set
 unfoldable pub shiftS : Direction → ℕ → Bitboard → Bitboard
 shiftS dir d s = setOf (λ n. has s (step 9 (opposite dir) d n))
+
+-- the list f i, f (i + 1), .., of k
+unfoldable pub tab : {A : Type 0} → (ℕ → A) → ℕ → ℕ → List A
+tab f i zero = []
+tab f i (suc k) = f i ∷ tab f (suc i) k
+
+-- the cell of square n
+abbrev pub cellAt : List ℕ → ℕ → ℕ
+cellAt cells n = getD cells (n - 1) 0
+
+-- "Two colour sets and fourteen kind sets of squares match the cells exactly, with no stray bits": for each mark from 1 to
+-- count the set of the squares whose cell has that mark, its colour or its kind
+unfoldable pub family : (ℕ → ℕ) → ℕ → List ℕ → List Bitboard
+family mark count cells = tab (λ k. setOf (λ n. eqb (mark (cellAt cells n)) k)) 1 count
+
+-- a mark for each cell number: one more than it, and the same for all from 31 on
+unfoldable pub cellMark : ℕ → ℕ
+cellMark c = cond (ltb c 31) (c + 1) 32

@@ -1,6 +1,7 @@
 // Squares, colours, kinds, pieces and sets of squares: the bottom layer, which rests on nothing.
 mod answers;
 mod bitboard;
+mod by_cell;
 mod color;
 mod piece;
 mod piece_kind;

@@ -5,9 +5,10 @@ use mathlib.Core.List.{List, [], _∷_}
 use native.Mathlib.Omega.{arith}
 use native.Mathlib.Nat.{add-zero, add-suc, suc-add, not-suc-le-zero, le-of-suc-le-suc}
 use native.Mathlib.Decide.{ℕ-discrete}
+use lib.Arith.{lt-of-le-ne}
 use lib.ListN.{length, getD, set, length-set}
 use lib.Seq.{ext-getD, getD-set-same, getD-set-other}
-use Rattle.position.specs.Machine.{tab}
+use Rattle.squares.specs.Sets.{tab}
 
 module _ {A : Type 0} where
   pub length-tab : (f : ℕ → A) (i k : ℕ) → length (tab f i k) ≡ k
@@ -52,3 +53,22 @@ module _ {A : Type 0} where
   tab-same f g (suc count) same =
       is-tab (tab f 1 (suc count)) g (suc count) (f 1) (length-tab f 1 (suc count))
       (λ j q. getD-tab f 1 (suc count) j (f 1) q ∙ same (1 + j) (omega arith) (omega arith))
+
+  -- a list of `count` elements is being filled by a rule, and the first i are stored
+  pub record Filled (rule : ℕ → A) (count i : ℕ) (l : List A) : Type 0 where
+    pub long : length l ≡ count
+    pub at : (j : ℕ) (d : A) → j < i → getD l j d ≡ rule (1 + j)
+
+  pub filled-none : (rule : ℕ → A) (count : ℕ) (l : List A) → length l ≡ count → Filled rule count 0 l
+  filled-none rule count l e = record { long = e; at = λ j d h. absurd (not-suc-le-zero h) }
+
+  pub filled-more : (rule : ℕ → A) (count i : ℕ) (l : List A) (x : A) → i < count → Filled rule count i l → x ≡ rule (1 + i) → Filled rule count (i + 1) (set l i x)
+  filled-more rule count i l x h f e =
+      record { long = length-set l i x ∙ f .long; at = λ j d q. at j d (ℕ-discrete j i) (omega arith) }
+    where
+      at : (j : ℕ) (d : A) → Dec (j ≡ i) → j < i + 1 → getD (set l i x) j d ≡ rule (1 + j)
+      at j d (yes z) q = ap (λ (k : ℕ). getD (set l i x) k d) z ∙ getD-set-same l i x d (omega (arith, f .long)) ∙ e ∙ ap (λ (k : ℕ). rule (1 + k)) (sym z)
+      at j d (no z) q = getD-set-other l i j x d z ∙ f .at j d (lt-of-le-ne (omega arith) z)
+
+  pub filled-all : (rule : ℕ → A) (count i : ℕ) (l : List A) → count ≤ i → Filled rule count i l → l ≡ tab rule 1 count
+  filled-all rule count i l h f = is-tab l rule count (rule 1) (f .long) (λ j q. f .at j (rule 1) (omega arith))
