@@ -14,6 +14,7 @@ use Rattle.squares.specs.Kinds.{kindRow, goodColour, goodCell}
 use Rattle.squares.specs.Sets.{firstOf}
 use Rattle.squares.proofs.Laws.{both, board-range, board-on}
 use Rattle.position.specs.Machine.{Machine, machine, full, cellAt, kingSquare}
+pub use Rattle.position.specs.Machine.{Sized}
 use Rattle.position.specs.Sound.{anyBelow, strayIn, kingWrong, standing, overLimit, goodLast, firstFault, faultElsewhere, sound}
 use Rattle.position.specs.Inner.{Tidy}
 use Rattle.position.specs.declared.position.Position.{Position}
@@ -68,13 +69,6 @@ pub record InOrder (m : Machine) : Type 0 where
   pub side : goodColour (m .side) ≡ true
   pub ply : m .ply ≡ 0 → ⊥
   pub last : goodLast (m .last) ≡ true
-
--- the lengths of a position's arrays
-pub record Sized (p : Position) : Type 0 where
-  pub board : length (p .board) ≡ 81
-  pub hands : length (p .hands) ≡ 14
-  pub players : length (p .players) ≡ 2
-  pub kinds : length (p .kinds) ≡ 14
 
 -- what no fault elsewhere says
 record NoFault (p : Position) : Type 0 where

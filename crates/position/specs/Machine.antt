@@ -1,7 +1,8 @@
 -- The plain machine of cells and hands, and the position that goes with it.
 use Prim.Native.Nat.{ℕ, zero, suc, _-_}
+use mathlib.Core.Path.{_≡_}
 use mathlib.Core.List.{List, [], _∷_}
-use lib.ListN.{getD, replicate}
+use lib.ListN.{length, getD, replicate}
 use lib.Dec.{eqb}
 use Rattle.squares.specs.declared.bitboard.Bitboard.{Bitboard}
 use Rattle.squares.specs.Board.{fileOf, rankOf}
@@ -22,6 +23,13 @@ pub record Machine : Type 0 where
   pub side : ℕ
   pub last : MoveNumbers
   pub ply : ℕ
+
+-- a value of the program's type: its arrays have their lengths
+pub record Sized (p : Position) : Type 0 where
+  pub board : length (p .board) ≡ 81
+  pub hands : length (p .hands) ≡ 14
+  pub players : length (p .players) ≡ 2
+  pub kinds : length (p .kinds) ≡ 14
 
 -- a position without what follows from its cells
 unfoldable pub machine : Position → Machine
