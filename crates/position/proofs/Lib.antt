@@ -18,5 +18,4 @@ mod Stepping
 mod Exact
 mod Theorems
 mod Editing
-mod Marked
 pub mod Laws

@@ -8,7 +8,7 @@ use native.Mathlib.Omega.{arith}
 use lib.Dec.{eqb}
 use Rattle.squares.specs.Board.{onBoard, turnedTo, opposite, step}
 use Rattle.squares.specs.Sets.{has, setOf, emptyS, singleS, orS, andS, xorS, andnotS, notS, flipS, withoutS, shiftS}
-use Rattle.squares.specs.Answers.{SetValue, TruthValue, setIf, truthIf, singleAnswer, containsAnswer, NumberValue, FormValue, numberIf, formIf, limitAnswer, promotedAnswer}
+use Rattle.squares.specs.Answers.{SetValue, TruthValue, setIf, truthIf, singleAnswer, containsAnswer, NumberValue, FormValue, numberIf, formIf, unpromotedAnswer, limitAnswer, letterAnswer, promotedAnswer}
 use Rattle.squares.specs.Kinds.{goodKind, kindRow}
 use Rattle.squares.specs.declared.bitboard.Bitboard.{Bitboard}
 use Rattle.squares.specs.declared.bitboard.Direction.{Direction}
@@ -23,7 +23,7 @@ pub use Rattle.squares.proofs.Counts.{count-same, count-add, count-sum,
 pub use Rattle.squares.proofs.Least.{First, smallest-is, smallest-at, smallest-none, size-without, count-none, size-none, size-le, empty-size, empty-none, empty-some, empty-has}
 pub use Rattle.squares.proofs.Least.{Popped, pop-square, pop-nothing}
 pub use Rattle.squares.proofs.Numbers.{kind-range, colour-range, colour-good, colour-low, colour-high, cell-piece, cell-zero, piece-cell, piece-kind, piece-low-bound}
-pub use Rattle.squares.proofs.Numbers.{piece-low, piece-gap, piece-high, piece-black, piece-white, row-bad, promoted-small, kind-good, kind-low, kind-high}
+pub use Rattle.squares.proofs.Numbers.{piece-low, piece-gap, piece-high, piece-black, piece-white, row-bad, promoted-small, letter-small, kind-good, kind-low, kind-high}
 pub use Rattle.squares.proofs.Numbers.{black-kind, white-kind, black-colour, white-colour, empty-colour, bad-cells, good-cells}
 pub use Rattle.squares.proofs.Unique.{one-number, one-form, one-set, one-truth, one-pattern, one-pop}
 
@@ -187,6 +187,22 @@ number-told false v w q = let z : _≡_ {A = ℕ} 0 2 = ap (λ (x : NumberValue)
 pub number-refused : (t : Bool) (v w : ℕ) → record { number = 2; value = v } ≡ numberIf t w → t ≡ false
 number-refused true v w q = let z : _≡_ {A = ℕ} 2 0 = ap (λ (x : NumberValue). x .number) q in absurd (omega arith)
 number-refused false v w q = refl
+
+pub unpromoted-told : (k v : ℕ) → record { number = 0; value = v } ≡ unpromotedAnswer k → v ≡ kindRow k .unpromoted
+unfolding unpromotedAnswer
+unpromoted-told k v q = number-told (goodKind k) v (kindRow k .unpromoted) q .1
+
+pub unpromoted-refused : (k v : ℕ) → record { number = 2; value = v } ≡ unpromotedAnswer k → kindRow k .unpromoted ≡ 0
+unfolding unpromotedAnswer
+unpromoted-refused k v q = row-bad k (number-refused (goodKind k) v (kindRow k .unpromoted) q) .0
+
+pub letter-told : (k v : ℕ) → record { number = 0; value = v } ≡ letterAnswer k → v ≡ kindRow k .letter
+unfolding letterAnswer
+letter-told k v q = number-told (goodKind k) v (kindRow k .letter) q .1
+
+pub letter-refused : (k v : ℕ) → record { number = 2; value = v } ≡ letterAnswer k → kindRow k .letter ≡ 0
+unfolding letterAnswer
+letter-refused k v q = row-bad k (number-refused (goodKind k) v (kindRow k .letter) q) .3
 
 pub limit-told : (k v : ℕ) → record { number = 0; value = v } ≡ limitAnswer k → v ≡ kindRow k .limit
 unfolding limitAnswer

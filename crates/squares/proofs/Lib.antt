@@ -15,4 +15,3 @@ mod Files
 mod Flips
 mod Numbers
 mod Unique
-mod Marked

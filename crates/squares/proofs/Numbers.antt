@@ -141,9 +141,9 @@ unfolding goodPiece
 piece-white c l h = rw (white-kind c (omega arith)) (kind-good (c - 16) (omega arith) (omega arith))
 
 -- ---- the rows of numbers that are no kinds
-pub row-bad : (k : ℕ) → goodKind k ≡ false → (kindRow k .unpromoted ≡ 0) × (kindRow k .promoted ≡ 0) × (kindRow k .limit ≡ 0)
+pub row-bad : (k : ℕ) → goodKind k ≡ false → (kindRow k .unpromoted ≡ 0) × (kindRow k .promoted ≡ 0) × (kindRow k .limit ≡ 0) × (kindRow k .letter ≡ 0)
 unfolding kindRow kinds goodKind
-row-bad zero e = (refl, refl, refl)
+row-bad zero e = (refl, refl, refl, refl)
 row-bad (suc zero) e = absurd (false≢true (sym e))
 row-bad (suc (suc zero)) e = absurd (false≢true (sym e))
 row-bad (suc (suc (suc zero))) e = absurd (false≢true (sym e))
@@ -158,7 +158,7 @@ row-bad (suc (suc (suc (suc (suc (suc (suc (suc (suc (suc (suc zero))))))))))) e
 row-bad (suc (suc (suc (suc (suc (suc (suc (suc (suc (suc (suc (suc zero)))))))))))) e = absurd (false≢true (sym e))
 row-bad (suc (suc (suc (suc (suc (suc (suc (suc (suc (suc (suc (suc (suc zero))))))))))))) e = absurd (false≢true (sym e))
 row-bad (suc (suc (suc (suc (suc (suc (suc (suc (suc (suc (suc (suc (suc (suc zero)))))))))))))) e = absurd (false≢true (sym e))
-row-bad (suc (suc (suc (suc (suc (suc (suc (suc (suc (suc (suc (suc (suc (suc (suc k))))))))))))))) e = (refl, refl, refl)
+row-bad (suc (suc (suc (suc (suc (suc (suc (suc (suc (suc (suc (suc (suc (suc (suc k))))))))))))))) e = (refl, refl, refl, refl)
 
 small : (k : ℕ) → k < 15 → kindRow k .promoted ≤ 14
 unfolding kindRow kinds
@@ -169,6 +169,16 @@ promoted-small k = ⊎-elim good (λ b. let z = row-bad k b .1 in omega arith) (
   where
     good : goodKind k ≡ true → kindRow k .promoted ≤ 14
     good g = let r = kind-range k g in small k (omega arith)
+
+letter-few : (k : ℕ) → k < 15 → kindRow k .letter ≤ 83
+unfolding kindRow kinds
+letter-few k h = leb→le _ _ (all-at (λ j. leb (kindRow j .letter) 83) 15 tt k h)
+
+pub letter-small : (k : ℕ) → kindRow k .letter ≤ 83
+letter-small k = ⊎-elim good (λ b. let z = row-bad k b .3 in omega arith) (decided (goodKind k))
+  where
+    good : goodKind k ≡ true → kindRow k .letter ≤ 83
+    good g = let r = kind-range k g in letter-few k (omega arith)
 
 -- the bad cells: 15, 16, and from 31 on
 pub bad-cells : (c : ℕ) → (eqb c 15 || eqb c 16) || leb 31 c ≡ not (goodCell c)

@@ -1,0 +1,71 @@
+-- What the writer answers in each case: 1, then 12, then the text.
+use Prim.Native.Nat.{ℕ, _≤_, _<_}
+use mathlib.Core.Path.{_≡_, refl, sym, ap, _∙_}
+use mathlib.Core.Bool.{Bool, true, false, not, cond}
+use mathlib.Core.List.{List, [], _∷_, _++_}
+use native.Mathlib.Omega.{arith}
+use lib.ListN.{length, take, drop}
+use lib.Dec.{eqb, ltb}
+use borrow.Author.Tests.{lt-ltb, le-ltb, ltb-false}
+use Rattle.position.specs.declared.position.Position.{Position}
+use Rattle.position.specs.declared.answers.Told.{Told}
+use Rattle.position.specs.Sound.{sound, firstFault}
+use Rattle.position.specs.Answers.{firstFact, toldBy, queryFacts, toldQuery, soundnessTold}
+use Rattle.sfen.specs.Text.{positionText}
+use Rattle.sfen.specs.declared.write.TextAnswer.{TextAnswer}
+use Rattle.sfen.specs.Writes.{writeFacts, textAnswer, bytesAfter}
+
+module _ (p : Position) (t : Told) (e : t ≡ soundnessTold p) where
+  -- an unsound position is refused by what the soundness test says
+  pub unsound-refused : (bytes : List ℕ) → (t .number ≡ 0 → ⊥) → (_≡_ {A = TextAnswer} (record { told = t; length = 0 }) (textAnswer p bytes)) × (bytes ≡ bytesAfter p bytes)
+  unfolding soundnessTold toldQuery toldBy queryFacts firstFact writeFacts textAnswer bytesAfter
+  unsound-refused bytes d = go (sound p) (ltb (length bytes) (length (positionText p))) (λ z. d (ap (λ (x : Told). x .number) e ∙ z)) e
+    where
+      go : (s short : Bool) → (_≡_ {A = ℕ} (cond (not s) 1 0) 0 → ⊥)
+          → t ≡ record { number = cond (not s) 1 0; square = cond (eqb (cond (not s) 1 0) 1) (firstFault p) 0 }
+          → (_≡_ {A = TextAnswer} (record { told = t; length = 0 }) (record { told = record { number = cond (not s) 1 (cond short 12 0); square = cond (eqb (cond (not s) 1 (cond short 12 0)) 1) (firstFault p) 0 }; length = cond (eqb (cond (not s) 1 (cond short 12 0)) 0) (length (positionText p)) 0 }))
+          × (bytes ≡ cond (eqb (cond (not s) 1 (cond short 12 0)) 0) (positionText p ++ drop (length (positionText p)) bytes) bytes)
+      go true short d e = absurd (d refl)
+      go false short d e = (ap (λ (x : Told). record { told = x; length = 0 }) e, refl)
+
+  pub sound-passes : t .number ≡ 0 → sound p ≡ true
+  unfolding soundnessTold toldQuery toldBy queryFacts firstFact
+  sound-passes z = go (sound p) (sym (ap (λ (x : Told). x .number) e) ∙ z)
+    where
+      go : (s : Bool) → _≡_ {A = ℕ} (cond (not s) 1 0) 0 → s ≡ true
+      go true h = refl
+      go false h = let x : _≡_ {A = ℕ} 1 0 = h in absurd (omega arith)
+
+module _ (p : Position) (bytes : List ℕ) (s : sound p ≡ true) where
+  pub short-refused : length bytes < length (positionText p)
+      → (textAnswer p bytes ≡ record { told = record { number = 12; square = 0 }; length = 0 }) × (bytesAfter p bytes ≡ bytes)
+  unfolding toldBy firstFact writeFacts textAnswer bytesAfter
+  short-refused h = let t = lt-ltb _ _ h in (rw (s, t), rw (s, t))
+
+  -- "the writer writes that text whenever it fits"
+  pub fitting-written : length (positionText p) ≤ length bytes
+      → (textAnswer p bytes ≡ record { told = record { number = 0; square = 0 }; length = length (positionText p) })
+      × (bytesAfter p bytes ≡ positionText p ++ drop (length (positionText p)) bytes)
+  unfolding toldBy firstFact writeFacts textAnswer bytesAfter
+  fitting-written h = let t = le-ltb _ _ h in (rw (s, t), rw (s, t))
+
+  -- the same as the code does it: a line that begins with the text, of which all or nothing is copied
+  pub written : (t : Told) (whole n : ℕ) (line after : List ℕ) → whole ≡ length (positionText p) → take whole line ≡ positionText p
+      → t ≡ record { number = cond (ltb (length bytes) whole) 12 0; square = 0 } → n ≡ cond (ltb (length bytes) whole) 0 whole
+      → after ≡ take n line ++ drop n bytes → (_≡_ {A = TextAnswer} (record { told = t; length = n }) (textAnswer p bytes)) × (after ≡ bytesAfter p bytes)
+  unfolding toldBy firstFact writeFacts textAnswer bytesAfter
+  written t whole n line after len front told count copied =
+      rw (s, ← len, ← front) (go (ltb (length bytes) whole) told count)
+    where
+      go : (short : Bool) → t ≡ record { number = cond short 12 0; square = 0 } → n ≡ cond short 0 whole
+          → (_≡_ {A = TextAnswer} (record { told = t; length = n }) (record { told = record { number = cond short 12 0; square = cond (eqb (cond short 12 0) 1) (firstFault p) 0 }; length = cond (eqb (cond short 12 0) 0) whole 0 }))
+          × (after ≡ cond (eqb (cond short 12 0) 0) (take whole line ++ drop whole bytes) bytes)
+      go true told count = (rw (told, count), copied ∙ rw count)
+      go false told count = (rw (told, count), copied ∙ rw count)
+
+pub fitting-small : (room whole : ℕ) → (cond (ltb room whole) 0 whole ≤ whole) × (cond (ltb room whole) 0 whole ≤ room)
+fitting-small room whole = go (ltb room whole) refl
+  where
+    go : (b : Bool) → ltb room whole ≡ b → (cond b 0 whole ≤ whole) × (cond b 0 whole ≤ room)
+    go true e = (omega arith, omega arith)
+    go false e = (omega arith, ltb-false room whole e)

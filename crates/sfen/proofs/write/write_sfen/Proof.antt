@@ -1,0 +1,75 @@
+use Prim.Native.Nat.{ℕ, _≤_}
+use mathlib.Core.Path.{_≡_, refl, ap}
+use mathlib.Core.Bool.{true}
+use native.Mathlib.Omega.{arith}
+use lib.ListN.{length, take, length-map}
+use borrow.Author.Needs.{needs}
+use Rattle.position.specs.Sound.{sound}
+use Rattle.position.proofs.Laws.{Sized}
+use Rattle.sfen.specs.Text.{positionText}
+use Rattle.sfen.proofs.Bound.{text-bound}
+use Rattle.sfen.proofs.Writing.{unsound-refused, sound-passes, written, fitting-small}
+use Rattle.sfen.proofs.write.write_sfen.Statement.{statement}
+use Rattle.sfen.proofs.write.write_sfen.Tie as tie
+
+size : (s : tie.Start) → Sized (s .args .t1)
+size s =
+    record {
+      board = omega (arith, length-map (s .args .t1 .board) (denote.Struct.Field.u8-field .into), s .good);
+      hands = omega (arith, length-map (s .args .t1 .hands) (denote.Struct.Field.u8-field .into), s .good);
+      players = omega (arith, length-map (s .args .t1 .players) (Rattle.squares.proofs.bitboard.Bitboard.the-type .to), s .good);
+      kinds = omega (arith, length-map (s .args .t1 .kinds) (Rattle.squares.proofs.bitboard.Bitboard.the-type .to), s .good);
+    }
+
+passes : (q : tie.Else1) → sound (q .before .before .before .before .args .t1) ≡ true
+passes q = sound-passes _ _ (q .before .before .soundness .ensures) (q .if1 .left)
+
+fits : (q : tie.Else1) → length (positionText (q .before .before .before .before .args .t1)) ≤ 168
+fits q =
+    let s = q .before .before .before .before in
+    omega (arith, text-bound (s .args .t1) (size s) (passes q) (omega (arith, s .good)))
+
+returns : tie.Need-returns
+returns c = let t = c .before .before in unsound-refused (t .before .before .args .t1) (t .soundness .result) (t .soundness .ensures) (t .before .before .args .out .now) (c .if1 .taken)
+
+put-text-requires : tie.Need-put-text-requires
+unfolding positionText
+put-text-requires c κs = record { size = refl; fits = omega (arith, fits (c .before .before .before .before)) }
+
+-- the line begins with the text
+len : (c : tie.After-put-text) → c .put-text .result ≡ length (positionText (c .before .before .before .before .before .before .before .before .before .args .t1))
+unfolding positionText
+len c = omega (arith, c .put-text .ensures .len)
+
+front : (c : tie.After-put-text) → take (c .put-text .result) (c .put-text .last .0) ≡ positionText (c .before .before .before .before .before .before .before .before .before .args .t1)
+unfolding positionText
+front c = c .put-text .ensures .bytes
+
+copy-front-requires : tie.Need-copy-front-requires
+copy-front-requires c κs =
+    let e = c .before .before .before in
+    let q = e .before .before .before .before .before in
+    let f = fitting-small (length (q .before .before .before .before .args .out .now)) (e .put-text .result) in
+    (e .put-text .ensures .kept, omega (arith, len e, fits q, f .0, c .before .before .fitting .ensures), omega (arith, f .1, c .before .before .fitting .ensures))
+
+returns-2 : tie.Need-returns-2
+returns-2 c =
+    let n = c .before .before .before .before .before .before in
+    let e = n .before in
+    let q = e .before .before .before .before .before in
+    let s = q .before .before .before .before in
+    written (s .args .t1) (s .args .out .now) (passes q) _ (e .put-text .result) (n .fitting .result) (e .put-text .last .0) (c .before .before .before .copy-front .last .1 .1 .0) (len e) (front e)
+    (ap (λ (x : ℕ). record { number = x; square = 0 }) (c .shortage .ensures)) (n .fitting .ensures) (c .before .before .before .copy-front .ensures)
+
+pub write-sfen-spec : {M : Type 1} → statement M
+write-sfen-spec =
+    tie.close
+    (tie.spec
+    (search needs)
+    returns
+    put-text-requires
+    (search needs)
+    copy-front-requires
+    (search needs)
+    (search needs)
+    returns-2)
