@@ -1,8 +1,10 @@
-// What the calls on a position answer: the number and the square that goes with 1, then the value.
+// What the calls on a position answer: the number and the square that goes with 1, then the value. Those of numbers alone are
+// laid out as in C, so that the firmware is handed the same struct.
 use crate::mv::LastMove;
 use crate::position::Position;
 use squares::Bitboard;
 
+#[repr(C)]
 pub struct Told {
     pub number: u8,
     pub square: u8,
@@ -18,16 +20,19 @@ pub struct PieceAnswer {
     pub stands: Stands,
 }
 
+#[repr(C)]
 pub struct SetAnswer {
     pub told: Told,
     pub set: Bitboard,
 }
 
+#[repr(C)]
 pub struct NumberAnswer {
     pub told: Told,
     pub value: u8,
 }
 
+#[repr(C)]
 pub struct PlyAnswer {
     pub told: Told,
     pub ply: u16,

@@ -16,6 +16,7 @@ use position::Position;
 use position::Told;
 
 // The number with the square that goes with 1, and how many bytes were written: 0 on a refusal.
+#[repr(C)]
 pub struct TextAnswer {
     pub told: Told,
     pub length: usize,

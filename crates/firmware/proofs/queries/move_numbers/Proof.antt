@@ -1,0 +1,19 @@
+use borrow.Author.Needs.{needs}
+use Rattle.position.specs.Moves.{numbersOf}
+use Rattle.firmware.proofs.queries.move_numbers.Statement.{statement}
+use Rattle.firmware.proofs.queries.move_numbers.Tie as tie
+
+returns : tie.Need-returns
+unfolding numbersOf
+returns c = rw (c .before .before .m .given .1) (rw (c .if1 .taken))
+
+returns-2 : tie.Need-returns-2
+unfolding numbersOf
+returns-2 c = rw (c .before .before .m .given .1) (rw (c .if1 .left))
+
+returns-3 : tie.Need-returns-3
+unfolding numbersOf
+returns-3 c = rw (c .before .m2 .given .1)
+
+pub move-numbers-spec : {M : Type 1} → statement M
+move-numbers-spec = tie.close (tie.spec (search needs) (search needs) returns returns-2 returns-3)

@@ -1,0 +1,61 @@
+-- The answers as C sees them, each from the answer of the call below: the same number, and the same values.
+use Prim.Native.Nat.{ℕ}
+use Rattle.squares.specs.Answers.{NumberValue, SetValue, TruthValue, PopValue}
+use Rattle.position.specs.Moves.{numbersOf}
+use Rattle.position.specs.declared.mv.MoveNumbers.{MoveNumbers}
+use Rattle.position.specs.declared.mv.LastMove.{LastMove}
+use Rattle.position.specs.declared.mv.LastMove.the-variants as Last
+use Rattle.position.specs.declared.answers.NumberAnswer.{NumberAnswer}
+use Rattle.position.specs.declared.answers.Stands.{Stands}
+use Rattle.position.specs.declared.answers.Stands.the-variants as Stand
+use Rattle.position.specs.declared.answers.PieceAnswer.{PieceAnswer}
+use Rattle.position.specs.declared.answers.KingSquare.{KingSquare}
+use Rattle.position.specs.declared.answers.KingSquare.the-variants as King
+use Rattle.position.specs.declared.answers.KingAnswer.{KingAnswer}
+use Rattle.position.specs.declared.answers.LastAnswer.{LastAnswer}
+use Rattle.firmware.specs.declared.answers.CNumber.{CNumber}
+use Rattle.firmware.specs.declared.answers.CSet.{CSet}
+use Rattle.firmware.specs.declared.answers.CTruth.{CTruth}
+use Rattle.firmware.specs.declared.answers.CPattern.{CPattern}
+use Rattle.firmware.specs.declared.answers.CPop.{CPop}
+use Rattle.firmware.specs.declared.answers.CLast.{CLast}
+
+-- ---- of calls on sets
+abbrev pub numberShown : NumberValue → CNumber
+numberShown v = record { number = v .number; value = v .value }
+
+abbrev pub setShown : SetValue → CSet
+setShown v = record { number = v .number; set = v .set }
+
+abbrev pub truthShown : TruthValue → CTruth
+truthShown v = record { number = v .number; truth = v .truth }
+
+abbrev pub patternShown : NumberValue → CPattern
+patternShown v = record { number = v .number; pattern = v .value }
+
+-- a square is 1 to 81, so that 0 says "nothing"
+abbrev pub popShown : PopValue → CPop
+popShown v = record { square = v .square; set = v .set }
+
+-- ---- of calls on positions: a piece is a cell "other than 0", so that 0 says "nothing"; and so for the square of a king
+abbrev pub pieceNumber : Stands → ℕ
+pieceNumber Stand.Nothing = 0
+pieceNumber (Stand.Piece c) = c
+
+abbrev pub pieceShown : PieceAnswer → NumberAnswer
+pieceShown a = record { told = a .told; value = pieceNumber (a .stands) }
+
+abbrev pub kingNumber : KingSquare → ℕ
+kingNumber King.Nothing = 0
+kingNumber (King.At n) = n
+
+abbrev pub kingShown : KingAnswer → NumberAnswer
+kingShown a = record { told = a .told; value = kingNumber (a .king) }
+
+-- a last move as a position stores it
+abbrev pub lastNumbers : LastMove → MoveNumbers
+lastNumbers Last.Nothing = record { tag = 0; a = 0; b = 0; promote = 0 }
+lastNumbers (Last.Was m) = numbersOf m
+
+abbrev pub lastShown : LastAnswer → CLast
+lastShown a = record { told = a .told; last = lastNumbers (a .last) }

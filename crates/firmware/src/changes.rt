@@ -1,0 +1,81 @@
+// Moves and edits of a lent position, in place: `Left` says what the call by value answers, and that a refusal leaves every field.
+ghost use mathlib.Core.Path.{_≡_};
+ghost use Rattle.position.specs.Moves.{movePlayed};
+ghost use Rattle.position.specs.Edits.{cellEdited, handEdited, sideEdited, plyEdited};
+ghost use Rattle.lent.specs.InPlace.{Left};
+use position::Answer;
+use position::Move;
+use position::Position;
+use position::Told;
+
+// ---- a move from its numbers
+
+fn make_normal(p: Position, from: u8, to: u8, promote: bool) -> Answer
+    ensures { λ r. ⌜ r ≡ movePlayed p (Move.Normal from to promote) ⌝ }
+{
+    let m = Move::Normal { from, to, promote };
+    p.make_move(m)
+}
+
+fn make_drop(p: Position, piece: u8, to: u8) -> Answer
+    ensures { λ r. ⌜ r ≡ movePlayed p (Move.Drop piece to) ⌝ }
+{
+    let m = Move::Drop { piece, to };
+    p.make_move(m)
+}
+
+// ---- in place
+
+#[no_mangle]
+pub extern "C" fn pulfredan_make_normal(p: &mut Position, from: u8, to: u8, promote: bool) -> Told
+    ensures { λ r. ⌜ Left (movePlayed (now (p .entry)) (Move.Normal from to promote)) (now (p .entry)) r (now (p .exit)) ⌝ }
+{
+    let r = make_normal(*p, from, to, promote);
+    *p = r.position;
+    r.told
+}
+
+#[no_mangle]
+pub extern "C" fn pulfredan_make_drop(p: &mut Position, piece: u8, to: u8) -> Told
+    ensures { λ r. ⌜ Left (movePlayed (now (p .entry)) (Move.Drop piece to)) (now (p .entry)) r (now (p .exit)) ⌝ }
+{
+    let r = make_drop(*p, piece, to);
+    *p = r.position;
+    r.told
+}
+
+#[no_mangle]
+pub extern "C" fn pulfredan_piece_set(p: &mut Position, square: u8, cell: u8) -> Told
+    ensures { λ r. ⌜ Left (cellEdited (now (p .entry)) square cell) (now (p .entry)) r (now (p .exit)) ⌝ }
+{
+    let r = (*p).piece_set(square, cell);
+    *p = r.position;
+    r.told
+}
+
+#[no_mangle]
+pub extern "C" fn pulfredan_hand_set(p: &mut Position, color: u8, kind: u8, count: u8) -> Told
+    ensures { λ r. ⌜ Left (handEdited (now (p .entry)) color kind count) (now (p .entry)) r (now (p .exit)) ⌝ }
+{
+    let r = (*p).hand_set(color, kind, count);
+    *p = r.position;
+    r.told
+}
+
+#[no_mangle]
+pub extern "C" fn pulfredan_side_to_move_set(p: &mut Position, color: u8) -> Told
+    ensures { λ r. ⌜ Left (sideEdited (now (p .entry)) color) (now (p .entry)) r (now (p .exit)) ⌝ }
+{
+    let r = (*p).side_to_move_set(color);
+    *p = r.position;
+    r.told
+}
+
+#[no_mangle]
+pub extern "C" fn pulfredan_ply_set(p: &mut Position, ply: u16) -> Told
+    ensures { λ r. ⌜ Left (plyEdited (now (p .entry)) ply) (now (p .entry)) r (now (p .exit)) ⌝ }
+{
+    let r = (*p).ply_set(ply);
+    *p = r.position;
+    r.told
+}

@@ -1,0 +1,6 @@
+-- Crates above cite Laws alone.
+mod Args
+mod Change
+mod Look
+mod Ends
+pub mod Laws

@@ -1,0 +1,15 @@
+// The position lent by its owner and changed in place: a thin entry over the move by value.
+ghost use mathlib.Core.Path.{_≡_};
+ghost use Rattle.lent.specs.InPlace.{Left};
+ghost use Rattle.position.specs.Moves.{movePlayed};
+use position::Move;
+use position::Position;
+use position::Told;
+
+pub fn make_move_in_place(p: &mut Position, m: Move) -> Told
+    ensures { λ r. ⌜ Left (movePlayed (now (p .entry)) m) (now (p .entry)) r (now (p .exit)) ⌝ }
+{
+    let r = (*p).make_move(m);
+    *p = r.position;
+    r.told
+}
