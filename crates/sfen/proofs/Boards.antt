@@ -12,11 +12,10 @@ use lib.Dec.{T, lit<, eqb, leb, ltb}
 use borrow.Author.Tests.{ne-eqb, le-leb, lt-leb, ltb-true, eqb-true}
 use Rattle.squares.specs.Board.{onBoard, squareAt, fileOf, rankOf}
 use Rattle.squares.specs.Kinds.{kinds, kindRow, goodKind, colourOf, kindOf, goodPiece, goodCell, pieceOf, promotedPiece}
-use Rattle.squares.proofs.Laws.{all, all-at, le-or-lt, piece-high, cell-piece, side-range, side-on, file-side, rank-side, at-back, at-board}
+use Rattle.squares.proofs.Laws.{all-at, le-or-lt, piece-high, cell-piece, side-range, side-on, file-side, rank-side, at-back, at-board}
 use Rattle.position.specs.Machine.{tab, cellAt}
 use Rattle.sfen.specs.Text.{Game, letterOf, kindText, pieceText, run, rankText, down, rankCells, ranks, laterText, ranksText, boardText}
 use Rattle.sfen.proofs.Cut.{Over, over-append}
-use Rattle.sfen.proofs.Cases.{run-some}
 
 -- ---- a cell from its letter
 abbrev kindBack : ℕ → ℕ
@@ -25,7 +24,7 @@ kindBack b = getD (6 ∷ 0 ∷ 0 ∷ 0 ∷ 0 ∷ 5 ∷ 0 ∷ 0 ∷ 0 ∷ 8 ∷ 2
 abbrev cellBack : ℕ → ℕ
 cellBack b = cond (leb b 90) (kindBack b) (16 + kindBack (b - 32))
 
-abbrev pub byteOf : ℕ → ℕ
+abbrev byteOf : ℕ → ℕ
 byteOf c = letterOf (colourOf c) (kindOf c)
 
 abbrev pub plain : ℕ → Bool

@@ -12,17 +12,17 @@ use lib.ListN.{length, getD, length-append}
 use borrow.Author.Tests.{lt-ltb}
 use Rattle.squares.specs.Bit.{digit}
 use Rattle.squares.specs.Kinds.{kinds, kindRow, goodKind, colourOf, kindOf, goodPiece, goodCell}
-use Rattle.squares.proofs.Laws.{all, all-at, board-on, decided, le-or-lt, piece-high, cell-piece}
+use Rattle.squares.proofs.Laws.{all-at, board-on, le-or-lt, piece-high, cell-piece}
 use Rattle.position.specs.declared.position.Position.{Position}
-use Rattle.position.specs.Machine.{machine, tab, cellAt}
+use Rattle.position.specs.Machine.{machine, cellAt}
 use Rattle.position.specs.Sound.{sound, standing}
 use Rattle.position.specs.Answers.{handAt}
-use Rattle.position.proofs.Laws.{Sized, InOrder, sound-order}
+use Rattle.position.proofs.Laws.{Sized, sound-order}
 use Rattle.sfen.specs.Text.{shogi, letterOf, kindText, pieceText, run, rankText, rankCells, ranks, laterText, ranksText, boardText, sideByte, number, countText, handText, orDash, handsText, text, positionText}
 use Rattle.sfen.specs.Inner.{place}
-use Rattle.sfen.proofs.Cases.{number-places, count-none, count-one, count-many, hands-both, text-parts}
-use Rattle.sfen.proofs.Boards.{concat, plain, length-rank}
-use Rattle.sfen.proofs.Sums.{total, sumTo, total-append, sum-same, sum-less, sum-both, count-sums, total-cells, length-tab, length-from}
+use Rattle.sfen.proofs.Cases.{number-places, hands-both}
+use Rattle.sfen.proofs.Boards.{concat, plain}
+use Rattle.sfen.proofs.Sums.{total, sumTo, total-append, sum-same, sum-less, count-sums, total-cells, length-tab, length-from}
 
 -- ---- a byte for each cell, and one more for a promoted piece
 abbrev extra : ℕ → ℕ
@@ -131,7 +131,7 @@ place-low : (unit n : ℕ) → n < unit → length (place unit n) ≡ 0
 unfolding place
 place-low unit n h = rw (lt-ltb n unit h)
 
-pub length-number : (n : ℕ) → n < 100000 → length (number n)
+length-number : (n : ℕ) → n < 100000 → length (number n)
     ≡ length (place 10000 n) + (length (place 1000 n) + (length (place 100 n) + (length (place 10 n) + 1)))
 length-number n h =
     ap length (number-places n h)

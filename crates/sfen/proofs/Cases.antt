@@ -7,11 +7,11 @@ use native.Mathlib.Nat.{div-div-eq-div-mul}
 use mathlib.Core.Path.{_≡_, refl, sym, ap, _∙_}
 use mathlib.Core.Bool.{Bool, true, false, not, cond, true≢false, false≢true}
 use mathlib.Core.List.{List, [], _∷_, _++_, append-assoc}
-use lib.ListN.{length, getD, length-append}
+use lib.ListN.{length, getD}
 use lib.Dec.{eqb, ltb}
-use borrow.Author.Tests.{lt-ltb, le-ltb, eq-eqb, ne-eqb}
+use borrow.Author.Tests.{lt-ltb, le-ltb, ne-eqb}
 use Rattle.squares.specs.Board.{squareAt}
-use Rattle.squares.specs.Kinds.{kindRow, colourOf, kindOf}
+use Rattle.squares.specs.Kinds.{kindRow}
 use Rattle.squares.proofs.Laws.{side-on, at-on, black-kind, white-kind, black-colour, white-colour}
 use Rattle.position.specs.Machine.{tab, cellAt}
 use Rattle.position.specs.Answers.{handAt}
@@ -78,7 +78,7 @@ down-less f zero h = absurd (omega arith)
 down-less f (suc n) h = let e : suc n - 1 ≡ n = omega arith in rw e
 
 -- the cell of a file and a rank, as the code finds it
-pub cell-at : (cells : List ℕ) (file rank : ℕ) → 1 ≤ file → file ≤ 9 → 1 ≤ rank → rank ≤ 9
+cell-at : (cells : List ℕ) (file rank : ℕ) → 1 ≤ file → file ≤ 9 → 1 ≤ rank → rank ≤ 9
     → cellAt cells (squareAt 9 file rank) ≡ getD cells (9 * (file - 1) + rank - 1) 0
 cell-at cells file rank lf hf lr hr =
     let e : squareAt 9 file rank - 1 ≡ 9 * (file - 1) + rank - 1 = rw (at-on 9 file rank (rw (side-on 9 file lf hf, side-on 9 rank lr hr))) (omega arith) in
@@ -145,11 +145,11 @@ decimal-most (suc f) (suc g) n h k = go (decLt n 10) (decimal-most f g (n / 10))
     go (yes p) r = rw (lt-ltb n 10 p)
     go (no p) r = rw (le-ltb n 10 (omega arith)) (ap (λ (t : List ℕ). t ++ (48 + n % 10) ∷ []) (r (omega arith) (omega arith)))
 
-pub number-low : (n : ℕ) → n < 10 → number n ≡ (48 + n) ∷ []
+number-low : (n : ℕ) → n < 10 → number n ≡ (48 + n) ∷ []
 unfolding number decimal
 number-low n h = rw (lt-ltb n 10 h)
 
-pub number-high : (n : ℕ) → 10 ≤ n → number n ≡ number (n / 10) ++ (48 + n % 10) ∷ []
+number-high : (n : ℕ) → 10 ≤ n → number n ≡ number (n / 10) ++ (48 + n % 10) ∷ []
 unfolding number decimal
 number-high n h = rw (le-ltb n 10 h) (ap (λ (t : List ℕ). t ++ (48 + n % 10) ∷ []) (decimal-most n (suc (n / 10)) (n / 10) (omega arith) (omega arith)))
 

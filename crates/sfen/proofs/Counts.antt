@@ -33,7 +33,7 @@ value-decimal (suc most) n h = go (decLt n 10) (value-decimal most (n / 10))
     go (no p) r = rw (le-ltb n 10 (omega arith)) (value-append 0 (decimal most (n / 10)) _ ∙ rw (r (omega arith)) (omega arith))
 
 -- every number is read back from its text
-pub value-number : (n : ℕ) → value 0 (number n) ≡ n
+value-number : (n : ℕ) → value 0 (number n) ≡ n
 unfolding number
 value-number n = value-decimal (suc n) n (omega arith)
 

@@ -4,7 +4,7 @@
 use Prim.Native.Nat.{ℕ, zero, suc, _+_, _-_, _≤_, _<_}
 use native.Mathlib.Omega.{arith}
 use native.Mathlib.Nat.{le-of-suc-le-suc, not-suc-le-zero}
-use mathlib.Core.Path.{_≡_, refl, sym, ap, _∙_}
+use mathlib.Core.Path.{_≡_, sym, _∙_}
 use mathlib.Core.Bool.{true}
 use mathlib.Core.List.{List, [], _∷_, _++_}
 use lib.Dec.{lit<, lit≤}
@@ -12,7 +12,7 @@ use lib.ListN.{length, getD}
 use lib.Seq.{ext-getD}
 use Rattle.squares.specs.Board.{onBoard}
 use Rattle.squares.specs.Kinds.{kinds, kindRow, goodColour}
-use Rattle.squares.proofs.Laws.{board-on, all, all-at}
+use Rattle.squares.proofs.Laws.{board-on}
 use Rattle.position.specs.declared.position.Position.{Position}
 use Rattle.position.specs.Machine.{machine, cellAt}
 use Rattle.position.specs.Sound.{sound}
@@ -22,7 +22,7 @@ use Rattle.sfen.specs.Text.{shogi, letterOf, text, positionText}
 use Rattle.sfen.specs.Lists.{joined, AllSound, Agree, AllAgree}
 use Rattle.sfen.proofs.Cut.{Over, over-less, cut}
 use Rattle.sfen.proofs.Boards.{GoodCells}
-use Rattle.sfen.proofs.Counts.{Distinct, letters, counts}
+use Rattle.sfen.proofs.Counts.{counts}
 use Rattle.sfen.proofs.Unique.{Readable, Same, text-over, text-same}
 
 pub shogi-readable : Readable shogi

@@ -3,7 +3,7 @@ use Prim.Native.Nat.{ℕ, zero, suc, _+_, _-_, _*_, _≤_, _<_}
 use native.Mathlib.Omega.{arith}
 use native.Mathlib.Nat.{mul-suc, mul-zero, add-zero, add-suc}
 use mathlib.Core.Path.{_≡_, refl, sym, ap, _∙_}
-use mathlib.Core.Bool.{Bool, true}
+use mathlib.Core.Bool.{Bool}
 use mathlib.Core.List.{List, [], _∷_, _++_}
 use lib.Dec.{lit≤}
 use lib.ListN.{length, getD, length-append}
@@ -13,7 +13,7 @@ use Rattle.squares.specs.Sets.{countOf}
 use Rattle.squares.proofs.Laws.{side-on, at-on}
 use Rattle.position.specs.Machine.{tab, cellAt}
 use Rattle.sfen.specs.Text.{down, rankCells, ranks}
-use Rattle.sfen.proofs.Boards.{concat, length-down, length-rank}
+use Rattle.sfen.proofs.Boards.{concat, length-rank}
 
 abbrev pub total : (ℕ → ℕ) → List ℕ → ℕ
 total f [] = 0

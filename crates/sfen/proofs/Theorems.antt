@@ -1,7 +1,7 @@
 -- What holds of the writer as it is defined: its numbers, and room that is always enough.
 use Prim.Native.Nat.{ℕ, _≤_, _<_}
 use native.Mathlib.Omega.{arith}
-use mathlib.Core.Path.{_≡_, refl, ap, _∙_}
+use mathlib.Core.Path.{_≡_, refl, ap}
 use mathlib.Core.Bool.{true}
 use mathlib.Core.List.{List}
 use lib.ListN.{length}
@@ -10,7 +10,6 @@ use Rattle.position.specs.declared.position.Position.{Position}
 use Rattle.position.specs.Sound.{sound}
 use Rattle.position.specs.Answers.{firstFact, toldBy}
 use Rattle.position.proofs.Laws.{Sized, Given, None, given-first, first-given, none-first, first-none}
-use Rattle.sfen.specs.Text.{positionText}
 use Rattle.sfen.specs.Writes.{writeFacts, textAnswer, bytesAfter}
 use Rattle.sfen.specs.declared.write.TextAnswer.{TextAnswer}
 use Rattle.sfen.proofs.Bound.{text-bound}

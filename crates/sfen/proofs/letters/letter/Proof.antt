@@ -1,5 +1,3 @@
-use mathlib.Core.Path.{sym, ap, _∙_}
-use Prim.Native.Nat.{_+_}
 use Rattle.sfen.proofs.Cases.{letter-black, letter-white}
 use borrow.Author.Needs.{needs}
 use Rattle.sfen.proofs.letters.letter.Statement.{statement}

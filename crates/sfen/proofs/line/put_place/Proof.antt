@@ -1,5 +1,3 @@
-use Prim.Native.Nat.{_≤_}
-use native.Mathlib.Omega.{arith}
 use Rattle.sfen.proofs.Lines.{puts-none}
 use Rattle.sfen.proofs.Cases.{place-none, place-some}
 use borrow.Author.Needs.{needs}
