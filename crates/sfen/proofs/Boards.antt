@@ -234,14 +234,14 @@ cells-same w cs ds e n o =
     rw (at-back w n o) at (rank-same w cs ds (rankOf w n) row (fileOf w n) (f .0) (f .1))
 
 -- ---- THE law of boards, on any side up to 9
-module _ (game : Game) (small : game .side ≤ 9) where
-  pub board-over : (cs : List ℕ) → GoodCells (game .side) cs → Over 32 (boardText game cs)
+module _ (game : Game) (small : game .width ≤ 9) where
+  pub board-over : (cs : List ℕ) → GoodCells (game .width) cs → Over 32 (boardText game cs)
   unfolding boardText
-  board-over cs g = over-ranks (ranks (game .side) cs) (good-ranks (game .side) cs small g)
+  board-over cs g = over-ranks (ranks (game .width) cs) (good-ranks (game .width) cs small g)
 
-  pub board-same : (cs ds : List ℕ) → GoodCells (game .side) cs → GoodCells (game .side) ds → boardText game cs ≡ boardText game ds
-      → (n : ℕ) → onBoard (game .side) n ≡ true → cellAt cs n ≡ cellAt ds n
+  pub board-same : (cs ds : List ℕ) → GoodCells (game .width) cs → GoodCells (game .width) ds → boardText game cs ≡ boardText game ds
+      → (n : ℕ) → onBoard (game .width) n ≡ true → cellAt cs n ≡ cellAt ds n
   unfolding boardText
   board-same cs ds g h e =
-      cells-same (game .side) cs ds
-      (sym (read-ranks (ranks (game .side) cs) (good-ranks (game .side) cs small g)) ∙ ap readCells e ∙ read-ranks (ranks (game .side) ds) (good-ranks (game .side) ds small h))
+      cells-same (game .width) cs ds
+      (sym (read-ranks (ranks (game .width) cs) (good-ranks (game .width) cs small g)) ∙ ap readCells e ∙ read-ranks (ranks (game .width) ds) (good-ranks (game .width) ds small h))

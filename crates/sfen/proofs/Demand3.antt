@@ -36,7 +36,7 @@ shogi-readable =
 
 -- ---- what a sound position has
 module _ (p : Position) (z : Sized p) (s : sound p ≡ true) where
-  good-cells : GoodCells (shogi .side) (p .board)
+  good-cells : GoodCells (shogi .width) (p .board)
   unfolding machine shogi
   good-cells = sound-order p z s .cells
 

@@ -17,13 +17,13 @@ use Rattle.sfen.proofs.Counts.{Distinct, letters, counts, number-same, 
 
 -- a game whose texts can be read: a run of empty cells has one digit, and the kinds in hand have letters of their own
 pub record Readable (game : Game) : Type 0 where
-  pub small : game .side ≤ 9
+  pub small : game .width ≤ 9
   pub above : Over 57 (letters (game .held))
   pub apart : Distinct (letters (game .held))
 
 -- what the text tells
 pub record Same (game : Game) (cs ds : List ℕ) (s t : ℕ) (hs ks : List ℕ) (m n : ℕ) : Type 0 where
-  pub cells : (sq : ℕ) → onBoard (game .side) sq ≡ true → cellAt cs sq ≡ cellAt ds sq
+  pub cells : (sq : ℕ) → onBoard (game .width) sq ≡ true → cellAt cs sq ≡ cellAt ds sq
   pub side : s ≡ t
   pub hands : counts (game .held) hs ≡ counts (game .held) ks
   pub ply : m ≡ n
@@ -54,7 +54,7 @@ side-over s = go (eqb s 1)
 
 module _ (game : Game) (r : Readable game) where
   -- every byte is a space or above it: in particular there is no newline
-  pub text-over : (cs : List ℕ) (s : ℕ) (hs : List ℕ) (m : ℕ) → GoodCells (game .side) cs → Over 31 (text game cs s hs m)
+  pub text-over : (cs : List ℕ) (s : ℕ) (hs : List ℕ) (m : ℕ) → GoodCells (game .width) cs → Over 31 (text game cs s hs m)
   unfolding text
   text-over cs s hs m g =
       over-append 31 (boardText game cs) _ (low (boardText game cs) (board-over game (r .small) cs g)) (
@@ -68,7 +68,7 @@ module _ (game : Game) (r : Readable game) where
       low : (bs : List ℕ) → Over 32 bs → Over 31 bs
       low bs = over-less 31 32 bs (lit≤ tt)
 
-  pub text-same : (cs ds : List ℕ) (s t : ℕ) (hs ks : List ℕ) (m n : ℕ) → GoodCells (game .side) cs → GoodCells (game .side) ds → goodColour s ≡ true → goodColour t ≡ true
+  pub text-same : (cs ds : List ℕ) (s t : ℕ) (hs ks : List ℕ) (m n : ℕ) → GoodCells (game .width) cs → GoodCells (game .width) ds → goodColour s ≡ true → goodColour t ≡ true
       → text game cs s hs m ≡ text game ds t ks n → Same game cs ds s t hs ks m n
   unfolding text
   text-same cs ds s t hs ks m n g h gs gt e =

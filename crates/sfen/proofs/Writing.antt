@@ -14,6 +14,7 @@ use Rattle.position.specs.Answers.{firstFact, toldBy, queryFacts, toldQuery, so
 use Rattle.sfen.specs.Text.{positionText}
 use Rattle.sfen.specs.declared.write.TextAnswer.{TextAnswer}
 use Rattle.sfen.specs.Writes.{writeFacts, textAnswer, bytesAfter}
+use Rattle.sfen.specs.Inner.{fitted}
 
 module _ (p : Position) (t : Told) (e : t ≡ soundnessTold p) where
   -- an unsound position is refused by what the soundness test says
@@ -50,21 +51,20 @@ module _ (p : Position) (bytes : List ℕ) (s : sound p ≡ true) where
   fitting-written h = let t = le-ltb _ _ h in (rw (s, t), rw (s, t))
 
   -- the same as the code does it: a line that begins with the text, of which all or nothing is copied
-  pub written : (t : Told) (whole n : ℕ) (line after : List ℕ) → whole ≡ length (positionText p) → take whole line ≡ positionText p
-      → t ≡ record { number = cond (ltb (length bytes) whole) 12 0; square = 0 } → n ≡ cond (ltb (length bytes) whole) 0 whole
-      → after ≡ take n line ++ drop n bytes → (_≡_ {A = TextAnswer} (record { told = t; length = n }) (textAnswer p bytes)) × (after ≡ bytesAfter p bytes)
-  unfolding toldBy firstFact writeFacts textAnswer bytesAfter
-  written t whole n line after len front told count copied =
-      rw (s, ← len, ← front) (go (ltb (length bytes) whole) told count)
+  pub written : (r : TextAnswer) (whole : ℕ) (line after : List ℕ) → whole ≡ length (positionText p) → take whole line ≡ positionText p
+      → r ≡ fitted whole (length bytes) → after ≡ take (r .length) line ++ drop (r .length) bytes → (r ≡ textAnswer p bytes) × (after ≡ bytesAfter p bytes)
+  unfolding toldBy firstFact writeFacts textAnswer bytesAfter fitted
+  written r whole line after len front answer copied = rw (s, ← len, ← front) (go (ltb (length bytes) whole) answer)
     where
-      go : (short : Bool) → t ≡ record { number = cond short 12 0; square = 0 } → n ≡ cond short 0 whole
-          → (_≡_ {A = TextAnswer} (record { told = t; length = n }) (record { told = record { number = cond short 12 0; square = cond (eqb (cond short 12 0) 1) (firstFault p) 0 }; length = cond (eqb (cond short 12 0) 0) whole 0 }))
+      go : (short : Bool) → r ≡ record { told = record { number = cond short 12 0; square = 0 }; length = cond short 0 whole }
+          → (r ≡ record { told = record { number = cond short 12 0; square = cond (eqb (cond short 12 0) 1) (firstFault p) 0 }; length = cond (eqb (cond short 12 0) 0) whole 0 })
           × (after ≡ cond (eqb (cond short 12 0) 0) (take whole line ++ drop whole bytes) bytes)
-      go true told count = (rw (told, count), copied ∙ rw count)
-      go false told count = (rw (told, count), copied ∙ rw count)
+      go true e = (e, copied ∙ rw e)
+      go false e = (e, copied ∙ rw e)
 
-pub fitting-small : (room whole : ℕ) → (cond (ltb room whole) 0 whole ≤ whole) × (cond (ltb room whole) 0 whole ≤ room)
-fitting-small room whole = go (ltb room whole) refl
+pub fitted-small : (whole room : ℕ) → (fitted whole room .length ≤ whole) × (fitted whole room .length ≤ room)
+unfolding fitted
+fitted-small whole room = go (ltb room whole) refl
   where
     go : (b : Bool) → ltb room whole ≡ b → (cond b 0 whole ≤ whole) × (cond b 0 whole ≤ room)
     go true e = (omega arith, omega arith)

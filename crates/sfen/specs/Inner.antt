@@ -5,6 +5,7 @@ use mathlib.Core.Bool.{cond}
 use mathlib.Core.List.{List, [], _∷_, _++_}
 use lib.ListN.{length, take}
 use lib.Dec.{ltb}
+use Rattle.sfen.specs.declared.write.TextAnswer.{TextAnswer}
 
 -- the line has room for bs at the place m
 pub record Room (line : List ℕ) (m : ℕ) (bs : List ℕ) : Type 0 where
@@ -26,3 +27,7 @@ pub record Owes (before : List ℕ) (m : ℕ) (after : List ℕ) (n : ℕ) (all 
 -- the digit of n at the place of unit, none where it would be a leading zero
 unfoldable pub place : ℕ → ℕ → List ℕ
 place unit n = cond (ltb n unit) [] ((48 + n / unit % 10) ∷ [])
+
+-- the answer for a text of `whole` bytes and so much room: all of it or nothing
+unfoldable pub fitted : ℕ → ℕ → TextAnswer
+fitted whole room = record { told = record { number = cond (ltb room whole) 12 0; square = 0 }; length = cond (ltb room whole) 0 whole }

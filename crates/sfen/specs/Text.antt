@@ -13,12 +13,12 @@ use Rattle.position.specs.Answers.{handAt}
 
 -- what of a game its text depends on: how many files and ranks, and the kinds held in hand in the text's order
 pub record Game : Type 0 where
-  pub side : ℕ
+  pub width : ℕ
   pub held : List ℕ
 
 -- "the order R B G S N L P"
 unfoldable pub shogi : Game
-shogi = record { side = 9; held = 7 ∷ 6 ∷ 5 ∷ 4 ∷ 3 ∷ 2 ∷ 1 ∷ [] }
+shogi = record { width = 9; held = 7 ∷ 6 ∷ 5 ∷ 4 ∷ 3 ∷ 2 ∷ 1 ∷ [] }
 
 -- "Letters P L N S G B R K, lower case for White": 32 above the capital
 unfoldable pub letterOf : ℕ → ℕ → ℕ
@@ -65,7 +65,7 @@ ranksText [] = []
 ranksText (r ∷ rs) = rankText 0 r ++ laterText rs
 
 unfoldable pub boardText : Game → List ℕ → List ℕ
-boardText game cells = ranksText (ranks (game .side) cells)
+boardText game cells = ranksText (ranks (game .width) cells)
 
 -- "`b` or `w`"
 unfoldable pub sideByte : ℕ → ℕ

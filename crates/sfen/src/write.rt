@@ -2,12 +2,10 @@
 ghost use mathlib.Core.Path.{_≡_};
 ghost use mathlib.Core.List.{_++_};
 ghost use Prim.Native.Nat.{_≤_};
-ghost use mathlib.Core.Bool.{cond};
-ghost use lib.Dec.{ltb};
 ghost use lib.ListN.{length, take, drop};
 ghost use Rattle.sfen.specs.Text.{sideByte, text, shogi};
 ghost use Rattle.sfen.specs.Writes.{textAnswer, bytesAfter};
-ghost use Rattle.sfen.specs.Inner.{Room, Puts};
+ghost use Rattle.sfen.specs.Inner.{Room, Puts, fitted};
 use crate::board::put_board;
 use crate::hands::put_hands;
 use crate::line::put;
@@ -59,17 +57,24 @@ fn copy_front(line: &[u8; 168], n: usize, out: &mut [u8])
     }
 }
 
-// How many of `whole` bytes go where there is room for `room`: all of them or none.
-fn fitting(whole: usize, room: usize) -> usize
-    ensures { λ r. ⌜ r ≡ cond (ltb room whole) 0 whole ⌝ }
+// The answer where there is room for `room` bytes: all of the text or nothing.
+fn verdict(whole: usize, room: usize) -> TextAnswer
+    ensures { λ r. ⌜ r ≡ fitted whole room ⌝ }
 {
-    if room < whole { 0 } else { whole }
-}
-
-fn shortage(whole: usize, room: usize) -> u8
-    ensures { λ r. ⌜ r ≡ cond (ltb room whole) 12 0 ⌝ }
-{
-    if room < whole { 12 } else { 0 }
+    if room < whole {
+        let told = Told {
+            number: 12,
+            square: 0,
+        };
+        let length = 0;
+        return TextAnswer { told, length };
+    }
+    let told = Told {
+        number: 0,
+        square: 0,
+    };
+    let length = whole;
+    TextAnswer { told, length }
 }
 
 // The text in the first bytes of `out`, and no other byte changed. 1 for an unsound position, then 12 where `out` is shorter
@@ -89,10 +94,8 @@ pub fn write_sfen(position: Position, out: &mut [u8]) -> TextAnswer
         &position.hands,
         position.ply,
     );
-    let room = out.len();
-    let length = fitting(whole, room);
+    let answer = verdict(whole, out.len());
+    let length = answer.length;
     copy_front(&line, length, out);
-    let number = shortage(whole, room);
-    let told = Told { number, square: 0 };
-    TextAnswer { told, length }
+    answer
 }

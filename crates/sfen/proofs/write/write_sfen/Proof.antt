@@ -1,5 +1,5 @@
 use Prim.Native.Nat.{ℕ, _≤_}
-use mathlib.Core.Path.{_≡_, refl, ap}
+use mathlib.Core.Path.{_≡_, refl}
 use mathlib.Core.Bool.{true}
 use native.Mathlib.Omega.{arith}
 use lib.ListN.{length, take, length-map}
@@ -8,7 +8,7 @@ use Rattle.position.specs.Sound.{sound}
 use Rattle.position.proofs.Laws.{Sized}
 use Rattle.sfen.specs.Text.{positionText}
 use Rattle.sfen.proofs.Bound.{text-bound}
-use Rattle.sfen.proofs.Writing.{unsound-refused, sound-passes, written, fitting-small}
+use Rattle.sfen.proofs.Writing.{unsound-refused, sound-passes, written, fitted-small}
 use Rattle.sfen.proofs.write.write_sfen.Statement.{statement}
 use Rattle.sfen.proofs.write.write_sfen.Tie as tie
 
@@ -47,19 +47,20 @@ front c = c .put-text .ensures .bytes
 
 copy-front-requires : tie.Need-copy-front-requires
 copy-front-requires c κs =
-    let e = c .before .before .before in
+    let v = c .before .before in
+    let e = v .before in
     let q = e .before .before .before .before .before in
-    let f = fitting-small (length (q .before .before .before .before .args .out .now)) (e .put-text .result) in
-    (e .put-text .ensures .kept, omega (arith, len e, fits q, f .0, c .before .before .fitting .ensures), omega (arith, f .1, c .before .before .fitting .ensures))
+    let f = rw (← v .verdict .ensures) at (fitted-small (e .put-text .result) (length (q .before .before .before .before .args .out .now))) in
+    (e .put-text .ensures .kept, omega (arith, len e, fits q, f .0), f .1)
 
 returns-2 : tie.Need-returns-2
 returns-2 c =
-    let n = c .before .before .before .before .before .before in
-    let e = n .before in
+    let v = c .before .before .before .before .before in
+    let e = v .before in
     let q = e .before .before .before .before .before in
     let s = q .before .before .before .before in
-    written (s .args .t1) (s .args .out .now) (passes q) _ (e .put-text .result) (n .fitting .result) (e .put-text .last .0) (c .before .before .before .copy-front .last .1 .1 .0) (len e) (front e)
-    (ap (λ (x : ℕ). record { number = x; square = 0 }) (c .shortage .ensures)) (n .fitting .ensures) (c .before .before .before .copy-front .ensures)
+    written (s .args .t1) (s .args .out .now) (passes q) (v .verdict .result) (e .put-text .result) (e .put-text .last .0) (c .before .before .copy-front .last .1 .1 .0) (len e) (front e)
+    (v .verdict .ensures) (c .before .before .copy-front .ensures)
 
 pub write-sfen-spec : {M : Type 1} → statement M
 write-sfen-spec =
@@ -70,6 +71,5 @@ write-sfen-spec =
     put-text-requires
     (search needs)
     copy-front-requires
-    (search needs)
     (search needs)
     returns-2)
