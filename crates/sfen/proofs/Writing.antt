@@ -17,17 +17,18 @@ use Rattle.sfen.specs.Writes.{writeFacts, textAnswer, bytesAfter}
 use Rattle.sfen.specs.Inner.{fitted}
 
 module _ (p : Position) (t : Told) (e : t ≡ soundnessTold p) where
+  unsound : (t .number ≡ 0 → ⊥) → sound p ≡ false
+  unfolding soundnessTold toldQuery toldBy queryFacts firstFact
+  unsound d = go (sound p) (λ z. d (ap (λ (x : Told). x .number) e ∙ z))
+    where
+      go : (s : Bool) → (_≡_ {A = ℕ} (cond (not s) 1 0) 0 → ⊥) → s ≡ false
+      go true d = absurd (d refl)
+      go false d = refl
+
   -- an unsound position is refused by what the soundness test says
   pub unsound-refused : (bytes : List ℕ) → (t .number ≡ 0 → ⊥) → (_≡_ {A = TextAnswer} (record { told = t; length = 0 }) (textAnswer p bytes)) × (bytes ≡ bytesAfter p bytes)
   unfolding soundnessTold toldQuery toldBy queryFacts firstFact writeFacts textAnswer bytesAfter
-  unsound-refused bytes d = go (sound p) (ltb (length bytes) (length (positionText p))) (λ z. d (ap (λ (x : Told). x .number) e ∙ z)) e
-    where
-      go : (s short : Bool) → (_≡_ {A = ℕ} (cond (not s) 1 0) 0 → ⊥)
-          → t ≡ record { number = cond (not s) 1 0; square = cond (eqb (cond (not s) 1 0) 1) (firstFault p) 0 }
-          → (_≡_ {A = TextAnswer} (record { told = t; length = 0 }) (record { told = record { number = cond (not s) 1 (cond short 12 0); square = cond (eqb (cond (not s) 1 (cond short 12 0)) 1) (firstFault p) 0 }; length = cond (eqb (cond (not s) 1 (cond short 12 0)) 0) (length (positionText p)) 0 }))
-          × (bytes ≡ cond (eqb (cond (not s) 1 (cond short 12 0)) 0) (positionText p ++ drop (length (positionText p)) bytes) bytes)
-      go true short d e = absurd (d refl)
-      go false short d e = (ap (λ (x : Told). record { told = x; length = 0 }) e, refl)
+  unsound-refused bytes d = let s = unsound d in (rw (e, s), rw s)
 
   pub sound-passes : t .number ≡ 0 → sound p ≡ true
   unfolding soundnessTold toldQuery toldBy queryFacts firstFact
