@@ -201,6 +201,12 @@ pulfredan_told pulfredan_make_normal(pulfredan_position *p, uint8_t from, uint8_
 /* A drop: 0, 2, 1, 4, 8, 9, 10, 11. Takes one from the hand and places it; records, switches and adds as above. */
 pulfredan_told pulfredan_make_drop(pulfredan_position *p, uint8_t piece, uint8_t to);
 
+/* The same moves without a test and without a refusal: always 0. For moves known to be accepted from a position known to be sound, there
+ * the position is the one that the calls above leave. On any other position it is what its definition says, and where a number is bad, the
+ * ply is the last, or a hand would leave its range, the position stays as it was. */
+pulfredan_told pulfredan_step_normal(pulfredan_position *p, uint8_t from, uint8_t to, bool promote);
+pulfredan_told pulfredan_step_drop(pulfredan_position *p, uint8_t piece, uint8_t to);
+
 /* Edits: 0, 2, 1, 13. One cell (0 empties it; the sets and king squares follow), one hand count, side, ply. The last move stays. */
 pulfredan_told pulfredan_piece_set(pulfredan_position *p, uint8_t square, uint8_t cell);
 pulfredan_told pulfredan_hand_set(pulfredan_position *p, uint8_t color, uint8_t kind, uint8_t count);

@@ -72,6 +72,12 @@ static void positions(void) {
     told_number("hand of kings", pulfredan_hand(&board, 1, 8));
     pulfredan_told_move last = pulfredan_last_move(&board);
     printf("last move: %u, %u %u %u %u\n", last.told.number, last.last.tag, last.last.a, last.last.b, last.last.promote);
+    pulfredan_position stepped = pulfredan_startpos();
+    told("8H to 2B, promoting", pulfredan_step_normal(&stepped, 71, 11, true));
+    told("3C to 3D", pulfredan_step_normal(&stepped, 21, 22, false));
+    told("bishop dropped on 5E", pulfredan_step_drop(&stepped, 6, 41));
+    told_number("piece on 5E", pulfredan_piece_at(&stepped, 41));
+    told_number("bishops in hand", pulfredan_hand(&stepped, 1, 6));
     told("side", pulfredan_side_to_move_set(&board, 2));
     told_number("side", pulfredan_side_to_move(&board));
     told("ply 0", pulfredan_ply_set(&board, 0));

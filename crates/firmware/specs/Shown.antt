@@ -2,9 +2,13 @@
 use Prim.Native.Nat.{ℕ}
 use Rattle.squares.specs.Answers.{NumberValue, SetValue, TruthValue, PopValue}
 use Rattle.position.specs.Moves.{numbersOf}
+use Rattle.position.specs.Steps.{stepped}
 use Rattle.position.specs.declared.mv.MoveNumbers.{MoveNumbers}
 use Rattle.position.specs.declared.mv.LastMove.{LastMove}
 use Rattle.position.specs.declared.mv.LastMove.the-variants as Last
+use Rattle.position.specs.declared.mv.Move.{Move}
+use Rattle.position.specs.declared.position.Position.{Position}
+use Rattle.position.specs.declared.answers.Answer.{Answer}
 use Rattle.position.specs.declared.answers.NumberAnswer.{NumberAnswer}
 use Rattle.position.specs.declared.answers.Stands.{Stands}
 use Rattle.position.specs.declared.answers.Stands.the-variants as Stand
@@ -59,3 +63,7 @@ lastNumbers (Last.Was m) = numbersOf m
 
 abbrev pub lastShown : LastAnswer → CLast
 lastShown a = record { told = a .told; last = lastNumbers (a .last) }
+
+-- ---- of the step, which asks nothing and refuses nothing
+abbrev pub stepShown : Position → Move → Answer
+stepShown p m = record { told = record { number = 0; square = 0 }; position = stepped p m }

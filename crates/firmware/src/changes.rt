@@ -3,6 +3,7 @@ ghost use mathlib.Core.Path.{_≡_};
 ghost use Rattle.position.specs.Moves.{movePlayed};
 ghost use Rattle.position.specs.Edits.{cellEdited, handEdited, sideEdited, plyEdited};
 ghost use Rattle.lent.specs.InPlace.{Left};
+ghost use Rattle.firmware.specs.Shown.{stepShown};
 use position::Answer;
 use position::Move;
 use position::Position;
@@ -24,6 +25,33 @@ fn make_drop(p: Position, piece: u8, to: u8) -> Answer
     p.make_move(m)
 }
 
+// ---- a step from its numbers
+
+fn step_by(p: Position, m: Move) -> Answer
+    ensures { λ r. ⌜ r ≡ stepShown p m ⌝ }
+{
+    let told = Told {
+        number: 0,
+        square: 0,
+    };
+    let position = p.step(m);
+    Answer { told, position }
+}
+
+fn step_normal(p: Position, from: u8, to: u8, promote: bool) -> Answer
+    ensures { λ r. ⌜ r ≡ stepShown p (Move.Normal from to promote) ⌝ }
+{
+    let m = Move::Normal { from, to, promote };
+    step_by(p, m)
+}
+
+fn step_drop(p: Position, piece: u8, to: u8) -> Answer
+    ensures { λ r. ⌜ r ≡ stepShown p (Move.Drop piece to) ⌝ }
+{
+    let m = Move::Drop { piece, to };
+    step_by(p, m)
+}
+
 // ---- in place
 
 #[no_mangle]
@@ -40,6 +68,24 @@ pub extern "C" fn pulfredan_make_drop(p: &mut Position, piece: u8, to: u8) -> To
     ensures { λ r. ⌜ Left (movePlayed (now (p .entry)) (Move.Drop piece to)) (now (p .entry)) r (now (p .exit)) ⌝ }
 {
     let r = make_drop(*p, piece, to);
+    *p = r.position;
+    r.told
+}
+
+#[no_mangle]
+pub extern "C" fn pulfredan_step_normal(p: &mut Position, from: u8, to: u8, promote: bool) -> Told
+    ensures { λ r. ⌜ Left (stepShown (now (p .entry)) (Move.Normal from to promote)) (now (p .entry)) r (now (p .exit)) ⌝ }
+{
+    let r = step_normal(*p, from, to, promote);
+    *p = r.position;
+    r.told
+}
+
+#[no_mangle]
+pub extern "C" fn pulfredan_step_drop(p: &mut Position, piece: u8, to: u8) -> Told
+    ensures { λ r. ⌜ Left (stepShown (now (p .entry)) (Move.Drop piece to)) (now (p .entry)) r (now (p .exit)) ⌝ }
+{
+    let r = step_drop(*p, piece, to);
     *p = r.position;
     r.told
 }

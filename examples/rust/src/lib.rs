@@ -97,6 +97,8 @@ mod c {
         pub fn pulfredan_last_move(p: &Position) -> ToldMove;
         pub fn pulfredan_make_normal(p: &mut Position, from: u8, to: u8, promote: bool) -> Told;
         pub fn pulfredan_make_drop(p: &mut Position, piece: u8, to: u8) -> Told;
+        pub fn pulfredan_step_normal(p: &mut Position, from: u8, to: u8, promote: bool) -> Told;
+        pub fn pulfredan_step_drop(p: &mut Position, piece: u8, to: u8) -> Told;
         pub fn pulfredan_piece_set(p: &mut Position, square: u8, cell: u8) -> Told;
         pub fn pulfredan_hand_set(p: &mut Position, color: u8, kind: u8, count: u8) -> Told;
         pub fn pulfredan_side_to_move_set(p: &mut Position, color: u8) -> Told;
@@ -153,6 +155,8 @@ impl Position {
         pulfredan_last_move = last_move(self: &Self) -> ToldMove;
         pulfredan_make_normal = make_normal(self: &mut Self; from: u8; to: u8; promote: bool) -> Told;
         pulfredan_make_drop = make_drop(self: &mut Self; piece: u8; to: u8) -> Told;
+        pulfredan_step_normal = step_normal(self: &mut Self; from: u8; to: u8; promote: bool) -> Told;
+        pulfredan_step_drop = step_drop(self: &mut Self; piece: u8; to: u8) -> Told;
         pulfredan_piece_set = piece_set(self: &mut Self; square: u8; cell: u8) -> Told;
         pulfredan_hand_set = hand_set(self: &mut Self; color: u8; kind: u8; count: u8) -> Told;
         pulfredan_side_to_move_set = side_to_move_set(self: &mut Self; color: u8) -> Told;

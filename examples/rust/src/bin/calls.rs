@@ -86,6 +86,12 @@ fn positions() {
     told_number("hand of kings", board.hand(1, 8));
     let last = board.last_move();
     println!("last move: {}, {} {} {} {}", last.told.number, last.last.tag, last.last.a, last.last.b, last.last.promote);
+    let mut stepped = Position::startpos();
+    told("8H to 2B, promoting", stepped.step_normal(71, 11, true));
+    told("3C to 3D", stepped.step_normal(21, 22, false));
+    told("bishop dropped on 5E", stepped.step_drop(6, 41));
+    told_number("piece on 5E", stepped.piece_at(41));
+    told_number("bishops in hand", stepped.hand(1, 6));
     told("side", board.side_to_move_set(2));
     told_number("side", board.side_to_move());
     told("ply 0", board.ply_set(0));
