@@ -1,5 +1,7 @@
 //! expand: copies standard input, but writes each word that begins with `@` as the 135 numbers of a position (CASES.md's
-//! `P`). Such a word is `@BOARD` and then changes, each after a comma. Lines that begin with `#` stay as they are.
+//! `P`), and each that begins with `$` as the bytes of a buffer. Lines that begin with `#` stay as they are.
+//! The first is `@BOARD` and then changes, each after a comma. The second is `$LEN:TEXT`, a buffer of LEN bytes that begins
+//! with a text, where `_` stands for a space; the bytes after it are as CASES.md has them before a text is written.
 //!
 //! BOARD is the board of an SFEN text, or a name: `start`, `empty`, or one that an earlier line `@NAME = BOARD,CHANGE..`
 //! has given. Black is to move, the ply is 1, hands and last move are empty, unless changed:
@@ -63,14 +65,31 @@ fn resolved(names: &Names, text: &str) -> String {
 }
 
 fn expanded(names: &Names, word: &str) -> String {
-    let Some(text) = word.strip_prefix('@') else {
+    let numbers = if let Some(text) = word.strip_prefix('@') {
+        position(&resolved(names, text)).map(Vec::from)
+    } else if let Some(text) = word.strip_prefix('$') {
+        buffer(text)
+    } else {
         return word.to_string();
     };
-    let Some(numbers) = position(&resolved(names, text)) else {
-        eprintln!("expand: not a position: {word}");
+    let Some(numbers) = numbers else {
+        eprintln!("expand: not a position or buffer: {word}");
         std::process::exit(1);
     };
-    numbers.map(|number| number.to_string()).join(" ")
+    let digits: Vec<String> = numbers.iter().map(u64::to_string).collect();
+    digits.join(" ")
+}
+
+/// The bytes of a buffer; nothing where the text is longer.
+fn buffer(word: &str) -> Option<Vec<u64>> {
+    let (len, text) = word.split_once(':')?;
+    let mut bytes: Vec<u64> = (0..len.parse().ok()?)
+        .map(|i: u64| (7 * i + 13) % 256)
+        .collect();
+    for (place, byte) in bytes.get_mut(..text.len())?.iter_mut().zip(text.bytes()) {
+        *place = if byte == b'_' { b' ' } else { byte }.into();
+    }
+    Some(bytes)
 }
 
 fn position(text: &str) -> Option<Numbers> {

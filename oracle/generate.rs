@@ -1,8 +1,9 @@
-//! generate N SEED: writes N case lines, all in document 01's shared domain, one half about sets of squares, the other
-//! about positions. The same N and SEED give the same lines.
+//! generate N SEED: writes N case lines, all in document 01's shared domain: two fifths about sets of squares, two fifths
+//! about positions, the rest about texts and games. The same N and SEED give the same lines.
 
 mod generate_positions;
 mod generate_sets;
+mod generate_texts;
 mod names;
 mod position;
 mod positions;
@@ -17,13 +18,16 @@ fn main() -> io::Result<()> {
         std::process::exit(2);
     };
     let mut chance = Chance(*seed);
+    let fifth = count / 5;
     let mut lines = Lines {
-        left: count - count / 2,
+        left: count - 3 * fifth,
         out: BufWriter::new(io::stdout().lock()),
     };
     generate_sets::write(&mut lines, &mut chance)?;
-    lines.left = count / 2;
+    lines.left = 2 * fifth;
     generate_positions::write(&mut lines, &mut chance)?;
+    lines.left = fifth;
+    generate_texts::write(&mut lines, &mut chance)?;
     lines.out.flush()
 }
 

@@ -33,11 +33,11 @@ pub fn write(lines: &mut Lines, chance: &mut Chance) -> io::Result<()> {
     Ok(())
 }
 
-fn start() -> Vec<u64> {
+pub fn start() -> Vec<u64> {
     answer(&[20], false).unwrap()
 }
 
-fn empty() -> Vec<u64> {
+pub fn empty() -> Vec<u64> {
     answer(&[21], false).unwrap()
 }
 
@@ -46,13 +46,13 @@ fn case(op: u64, position: &[u64], arguments: &[u64]) -> Vec<u64> {
 }
 
 /// The position after a move or an edit, unless it is refused or leaves the shared domain.
-fn after(op: u64, position: &[u64], arguments: &[u64]) -> Option<Vec<u64>> {
+pub fn after(op: u64, position: &[u64], arguments: &[u64]) -> Option<Vec<u64>> {
     let answer = answer(&case(op, position, arguments), false)?;
     (answer[0] == 0 && answer[2 + PLY] < 65535).then(|| answer[2..].to_vec())
 }
 
 impl Lines {
-    fn put_call(&mut self, op: u64, position: &[u64], arguments: &[u64]) -> io::Result<()> {
+    pub fn put_call(&mut self, op: u64, position: &[u64], arguments: &[u64]) -> io::Result<()> {
         self.put(&case(op, position, arguments))
     }
 
@@ -161,7 +161,7 @@ fn game(lines: &mut Lines, chance: &mut Chance) -> io::Result<Vec<u64>> {
 }
 
 /// A position made by edits, then perhaps some moves, so that there is a last move, then perhaps some edits more.
-fn set_up(chance: &mut Chance) -> Vec<u64> {
+pub fn set_up(chance: &mut Chance) -> Vec<u64> {
     let mut position = empty();
     let edits = chance.below(100);
     let moves = chance.below(4);
@@ -182,11 +182,11 @@ fn set_up(chance: &mut Chance) -> Vec<u64> {
 }
 
 impl Chance {
-    fn color(&mut self) -> u64 {
+    pub fn color(&mut self) -> u64 {
         1 + self.below(2)
     }
 
-    fn among(&mut self, numbers: &[u64]) -> u64 {
+    pub fn among(&mut self, numbers: &[u64]) -> u64 {
         numbers[self.below(numbers.len() as u64) as usize]
     }
 
@@ -204,7 +204,7 @@ impl Chance {
     }
 
     /// A move, as often as not one that is made: a capture, another normal move, or a drop.
-    fn mv(&mut self, position: &[u64]) -> [u64; 4] {
+    pub fn mv(&mut self, position: &[u64]) -> [u64; 4] {
         let side = position[SIDE];
         let own = |cell| color_of(cell) == side;
         let others = |cell| color_of(cell) == 3 - side;

@@ -2,9 +2,13 @@
 
 use std::io::{self, Write};
 
+/// The most numbers that a line may hold.
+const MOST: usize = 1024;
+
 /// The numbers of a line; nothing where the line is not of the form, or a number is past every place's range.
 pub fn parse(line: &[u8]) -> Option<Vec<u64>> {
-    line.split(|&byte| byte == b' ').map(number).collect()
+    let numbers: Option<Vec<u64>> = line.split(|&byte| byte == b' ').map(number).collect();
+    numbers.filter(|numbers| numbers.len() <= MOST)
 }
 
 fn number(digits: &[u8]) -> Option<u64> {

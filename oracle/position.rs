@@ -17,7 +17,7 @@ const LAST: Range<usize> = 131..135;
 pub const LENGTH: usize = 135;
 
 /// Document 01's full set, kinds 1 to 7.
-const LIMITS: [u64; 7] = [18, 4, 4, 4, 4, 2, 2];
+pub const LIMITS: [u64; 7] = [18, 4, 4, 4, 4, 2, 2];
 
 /// The colour of a cell; 0 for an empty one.
 pub fn color_of(cell: u64) -> u64 {

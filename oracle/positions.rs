@@ -1,4 +1,4 @@
-//! Ops 20 to 38: positions, their queries, moves and edits.
+//! Ops 20 to 39 and 90: positions, their queries, moves and edits, their texts, and games.
 
 use crate::names::{
     byte, cell, color, color_number, holding, kind, move_numbers, mv, piece, standing, words,
@@ -14,6 +14,7 @@ pub fn answer(case: &[u64], any: bool) -> Option<Vec<u64>> {
     match case {
         [20] => return Some(read(&PartialPosition::startpos())),
         [21] => return Some(read(&PartialPosition::empty())),
+        [90, first, moves @ ..] => return game(*first, moves),
         _ => {}
     }
     let (op, rest) = case.split_first()?;
@@ -40,7 +41,7 @@ pub fn answer(case: &[u64], any: bool) -> Option<Vec<u64>> {
         }
         (32, &[n]) => told(Some([king_square(&position, color(n)?)])),
         (33, []) => told(Some(move_numbers(position.last_move()))),
-        (34, numbers) => moved(p, position, numbers)?,
+        (34, numbers) => moved(position, numbers)?,
         (35..=38, numbers) => {
             let mut edited = position;
             let number = match edit(&mut edited, *op, numbers)? {
@@ -54,6 +55,7 @@ pub fn answer(case: &[u64], any: bool) -> Option<Vec<u64>> {
             }
             [&[number, 0], &after[..]].concat()
         }
+        (39, &[len]) => written(&position, len)?,
         _ => return None,
     })
 }
@@ -68,21 +70,66 @@ fn told<const N: usize>(values: Option<[u64; N]>) -> Vec<u64> {
     [&[number, 0], &values.unwrap_or([0; N])[..]].concat()
 }
 
-/// The answer of `make_move`; nothing where the crate refuses what document 01 allows, or allows what it refuses.
-/// Document 01 leaves a taken king out of the shared domain, but the crate refuses it, as does number 7.
-fn moved(p: &[u64], mut position: PartialPosition, numbers: &[u64]) -> Option<Vec<u64>> {
-    let number = match mv(numbers)? {
-        None => 2,
-        Some(mv) => {
-            let number = refusal(p, numbers);
-            let made = position.make_move(mv).is_some();
-            if made != (number == 0) {
-                return None;
-            }
-            number
-        }
-    };
+/// The answer of `make_move`.
+fn moved(mut position: PartialPosition, numbers: &[u64]) -> Option<Vec<u64>> {
+    let number = make(&mut position, numbers)?;
     Some([&[number, 0], &read(&position)[..]].concat())
+}
+
+/// Makes a move, and gives its number; nothing where the crate refuses what document 01 allows, or allows what it refuses.
+/// Document 01 leaves a taken king out of the shared domain, but the crate refuses it, as does number 7.
+fn make(position: &mut PartialPosition, numbers: &[u64]) -> Option<u64> {
+    let Some(mv) = mv(numbers)? else {
+        return Some(2);
+    };
+    let number = refusal(&read(position), numbers);
+    let made = position.make_move(mv).is_some();
+    (made == (number == 0)).then_some(number)
+}
+
+/// A game from the empty or the start position: the number of each move, then where it ends and that position's text.
+fn game(first: u64, moves: &[u64]) -> Option<Vec<u64>> {
+    let mut position = match first {
+        0 => PartialPosition::empty(),
+        1 => PartialPosition::startpos(),
+        _ => return None,
+    };
+    let mut answer = Vec::new();
+    for numbers in moves.chunks(4) {
+        answer.push(make(&mut position, numbers)?);
+    }
+    let text = text(&position);
+    answer.extend(read(&position));
+    answer.push(text.len() as u64);
+    answer.extend(text.bytes().map(u64::from));
+    Some(answer)
+}
+
+/// The SFEN text, all of it written by the crate.
+pub fn text(position: &PartialPosition) -> String {
+    let mut text = String::new();
+    position.to_sfen(&mut text).unwrap(); // a String takes every byte
+    text
+}
+
+/// The text in a buffer of that many bytes. The crate writes into a sink that has room for all, so the buffer, and with it
+/// number 12, is document 01's.
+fn written(position: &PartialPosition, len: u64) -> Option<Vec<u64>> {
+    if len > 512 {
+        return None;
+    }
+    let mut buffer: Vec<u64> = (0..len).map(|i| (7 * i + 13) % 256).collect();
+    let text = text(position);
+    let (number, length) = match buffer.get_mut(..text.len()) {
+        Some(start) => {
+            for (place, byte) in start.iter_mut().zip(text.bytes()) {
+                *place = byte.into();
+            }
+            (0, text.len() as u64)
+        }
+        None => (12, 0),
+    };
+    Some([&[number, 0, length], &buffer[..]].concat())
 }
 
 /// The number of document 01's first fact against a move, 0 for none. The crate refuses without saying why.

@@ -8,6 +8,7 @@ mod position_ops;
 mod positions;
 mod scan;
 mod set_ops;
+mod text_ops;
 
 use emit::Bytes;
 use emit::Gathered;

@@ -5,6 +5,7 @@ use crate::numbers::Numbers;
 use crate::numbers::read_u64;
 use crate::position_ops;
 use crate::set_ops;
+use crate::text_ops;
 
 // The answer numbers of these calls.
 pub const DONE: u64 = 0;
@@ -25,6 +26,7 @@ pub fn answer(nums: &Numbers, count: usize, ans: &mut Numbers) -> usize {
         15..=17 => number_ops::answer(op, nums, ans),
         20..=34 => position_ops::answer(op, nums, ans),
         35..=38 => edit_ops::answer(op, nums, ans),
+        39 | 90 => text_ops::answer(op, nums, count, ans),
         _ => MALFORMED,
     }
 }
@@ -39,10 +41,11 @@ fn has_count(op: u64, count: usize) -> bool {
         4 | 11 => count == 4,
         5..=8 | 14 => count == 5,
         22 | 27..=30 | 33 => count == 136,
-        23..=26 | 32 | 37 | 38 => count == 137,
+        23..=26 | 32 | 37..=39 => count == 137,
         31 | 35 => count == 138,
         34 => count == 140,
         36 => count == 139,
+        90 => count % 4 == 2,
         _ => false,
     }
 }

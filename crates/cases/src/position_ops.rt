@@ -1,4 +1,5 @@
 // The calls on positions: ops 20 to 34.
+use crate::numbers::MOST;
 use crate::numbers::MaybeU8;
 use crate::numbers::Numbers;
 use crate::numbers::put;
@@ -47,7 +48,7 @@ pub fn answer(op: u64, nums: &Numbers, ans: &mut Numbers) -> usize {
 }
 
 // A move: its four numbers are of the form, or the line is not.
-enum MaybeMove {
+pub(crate) enum MaybeMove {
     Fits(Move),
     Malformed,
 }
@@ -68,7 +69,7 @@ fn of_numbers(op: u64, p: Position, nums: &Numbers, ans: &mut Numbers) -> usize 
     }
 }
 
-fn put_told(ans: &mut Numbers, told: Told) -> usize {
+pub(crate) fn put_told(ans: &mut Numbers, told: Told) -> usize {
     let at = put_u8(ans, 0, told.number);
     put_u8(ans, at, told.square)
 }
@@ -164,7 +165,7 @@ fn move_numbers(m: Move) -> MoveNumbers {
 }
 
 fn make_move(p: Position, nums: &Numbers, ans: &mut Numbers) -> usize {
-    let MaybeMove::Fits(m) = read_move(nums) else {
+    let MaybeMove::Fits(m) = read_move(nums, AFTER) else {
         return MALFORMED;
     };
     put_answer(ans, p.make_move(m))
@@ -178,15 +179,19 @@ pub(crate) fn put_answer(ans: &mut Numbers, answer: Answer) -> usize {
     put_position(ans, at, position)
 }
 
-fn read_move(nums: &Numbers) -> MaybeMove {
-    let MaybeU8::Fits(a) = read_u8(nums, AFTER + 1) else {
+// The move whose four numbers begin at a place.
+pub(crate) fn read_move(nums: &Numbers, at: usize) -> MaybeMove {
+    if MOST <= at {
+        return MaybeMove::Malformed;
+    }
+    let MaybeU8::Fits(a) = read_u8(nums, at + 1) else {
         return MaybeMove::Malformed;
     };
-    let MaybeU8::Fits(to) = read_u8(nums, AFTER + 2) else {
+    let MaybeU8::Fits(to) = read_u8(nums, at + 2) else {
         return MaybeMove::Malformed;
     };
-    let tag = read_u64(nums, AFTER);
-    let promote = read_u64(nums, AFTER + 3);
+    let tag = read_u64(nums, at);
+    let promote = read_u64(nums, at + 3);
     if tag == 1 && promote <= 1 {
         return MaybeMove::Fits(Move::Normal {
             from: a,

@@ -1,5 +1,6 @@
 // Prints what the calls that no case line reaches answer, for every number. What it must print comes from the Rust.
 mod print;
+mod steps;
 
 use print::form;
 use print::number;
@@ -21,6 +22,7 @@ fn main() {
     for bit in 0..64u8 {
         emptiness(bit);
     }
+    steps::play();
 }
 
 // What each call makes of one number.

@@ -8,4 +8,4 @@ main-spec =
     tie.close (tie.spec (λ _ _. Unit) (λ _ n. 256 - n) (λ _ _. Unit) (λ _ n. 64 - n) (λ _ _. Unit) (λ _ bit. 64 - bit)
     (search needs) (search needs) (search needs) (search needs) (search needs) (search needs) (search needs) (search needs)
     (search needs) (search needs) (search needs) (search needs) (search needs) (search needs) (search needs) (search needs)
-    (search needs))
+    (search needs) (search needs))
