@@ -16,7 +16,8 @@ use Rattle.position.specs.Machine.{machine, cellAt}
 use Rattle.position.specs.Sound.{sound}
 use Rattle.position.specs.Answers.{firstFact, stood}
 use Rattle.position.specs.Moves.{badMove, normalFacts, ruleFacts, held}
-use Rattle.position.specs.Steps.{Movable, Room, InHand}
+use Rattle.position.specs.Steps.{Room, InHand}
+use Rattle.position.specs.Plans.{normalPlan, dropPlan, Playable}
 use Rattle.position.specs.Inner.{OnBoard}
 use Rattle.position.specs.declared.position.Position.{Position}
 use Rattle.position.specs.declared.mv.Move.the-variants.{Normal, Drop}
@@ -92,13 +93,13 @@ module _ (p : Position) (s : Sized p) (h : sound p ≡ true) where
     early : (p .ply ≡ 65535 → ⊥) → p .ply < 65535
     early d = lt-of-le-ne (omega arith) d
 
-    pub normal-movable : (from to : ℕ) (promote : Bool) → CanMove (machine p) from to promote → Movable p from to
-    unfolding machine
-    normal-movable from to promote k = record { at-from = k .start; at-to = k .goal; side = sound-side .1; ply = early (k .early) }
+    pub normal-fits : (from to : ℕ) (promote : Bool) (c t : ℕ) (hands : List ℕ) → CanMove (machine p) from to promote → Playable p (normalPlan from to promote c t hands)
+    unfolding machine normalPlan
+    normal-fits from to promote c t hands k = record { at-from = k .start; at-to = k .goal; side = λ z. sound-side .1; ply = λ z. early (k .early) }
 
-    pub drop-movable : (piece to : ℕ) → CanDrop (machine p) piece to → Movable p to to
-    unfolding machine
-    drop-movable piece to k = record { at-from = k .goal; at-to = k .goal; side = sound-side .1; ply = early (k .early) }
+    pub drop-fits : (piece to c : ℕ) (hands : List ℕ) → CanDrop (machine p) piece to → Playable p (dropPlan piece to c hands)
+    unfolding machine dropPlan
+    drop-fits piece to c hands k = record { at-from = k .goal; at-to = k .goal; side = λ z. sound-side .1; ply = λ z. early (k .early) }
 
   pub drop-held : (piece to : ℕ) → CanDrop (machine p) piece to → InHand (p .hands) (p .side) piece
   unfolding machine

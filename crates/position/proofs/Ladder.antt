@@ -146,6 +146,13 @@ module _ (p : Position) (m : Move) where
       let b = none-of _ 1 _ (eqb-false 1 0 refl) (a .1) in
       record { good = a .0; whole = not-false _ (b .0) }
 
+  -- no square goes with 0
+  pub told-clear : (t : Told) → t ≡ toldQuery (badMove m) p → t .number ≡ 0 → t .square ≡ 0
+  unfolding toldQuery toldBy
+  told-clear t e z =
+      let n : firstFact (queryFacts (badMove m) p) ≡ 0 = ap (λ (x : Told). x .number) (sym e) ∙ z in
+      ap (λ (x : Told). x .square) e ∙ rw n
+
   module _ (r : Ready p m) where
     number-is : firstFact (moveFacts p m) ≡ firstFact (ruleFacts (machine p) m)
     unfolding moveFacts firstFact

@@ -10,6 +10,7 @@ mod Asking
 mod Pieces
 mod Kings
 mod Carry
+mod Playing
 mod Tallies
 mod Ladder
 mod Kept

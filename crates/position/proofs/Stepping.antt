@@ -14,9 +14,11 @@ use Rattle.position.specs.Machine.{machine, full}
 use Rattle.position.specs.Sound.{sound}
 use Rattle.position.specs.Answers.{firstFact, handAt}
 use Rattle.position.specs.Moves.{badMove, ruleFacts, next}
-use Rattle.position.specs.Steps.{carriedBy, roomFor, holds, handFits, stepped, Movable, Steppable, Room, InHand}
+use Rattle.position.specs.Steps.{carriedBy, roomFor, holds, handFits, stepped, Steppable, Room, InHand}
 use Rattle.position.specs.Inner.{OnBoard}
+use Rattle.position.specs.Plans.{Playable}
 use Rattle.position.specs.declared.position.Position.{Position}
+use Rattle.position.specs.declared.plan.Plan.{Plan}
 use Rattle.position.specs.declared.mv.Move.{Move}
 use Rattle.position.specs.declared.mv.Move.the-variants.{Normal, Drop}
 use Rattle.position.proofs.InOrder.{Sized, sound-order}
@@ -24,6 +26,19 @@ use Rattle.position.proofs.Pieces.{or-right}
 use Rattle.position.proofs.Ladder.{normal-passes, drop-passes}
 use Rattle.position.proofs.Kept.{normal-carried, drop-carried}
 use Rattle.position.proofs.Halves.{sound-room, drop-held}
+
+module _ (p : Position) (m : Move) where
+  pub step-bad : badMove m ≡ true → p ≡ stepped p m
+  unfolding stepped
+  step-bad b = rw b
+
+  pub step-nobody : badMove m ≡ false → goodColour (p .side) ≡ false → p ≡ stepped p m
+  unfolding stepped
+  step-nobody b g = rw (b, g)
+
+  pub step-last : badMove m ≡ false → goodColour (p .side) ≡ true → eqb (p .ply) 65535 ≡ true → p ≡ stepped p m
+  unfolding stepped
+  step-last b g l = rw (b, g, l)
 
 module _ (p : Position) (m : Move) (s : Steppable p m) where
   pub step-keeps : handFits p m ≡ false → p ≡ stepped p m
@@ -34,9 +49,14 @@ module _ (p : Position) (m : Move) (s : Steppable p m) where
   unfolding stepped
   step-does r e q = rw (s .good, s .side, s .ply, e) q
 
-  pub step-movable : (from to : ℕ) → p .ply < 65536 → OnBoard from → OnBoard to → Movable p from to
-  step-movable from to h f t =
-      record { at-from = f; at-to = t; side = colour-range (p .side) (s .side) .1; ply = lt-of-le-ne (omega arith) (eqb-false (p .ply) 65535 (s .ply)) }
+  pub step-fits : (plan : Plan) → p .ply < 65536 → OnBoard (plan .from) → OnBoard (plan .to) → Playable p plan
+  step-fits plan h f t =
+      record {
+        at-from = f;
+        at-to = t;
+        side = λ z. colour-range (p .side) (s .side) .1;
+        ply = λ z. lt-of-le-ne (omega arith) (eqb-false (p .ply) 65535 (s .ply));
+      }
 
 pub room-fits : (hands : List ℕ) (side t : ℕ) → goodColour side ≡ true → roomFor side t hands ≡ true → Room hands side t
 unfolding roomFor

@@ -7,3 +7,4 @@ pub mod Games
 pub mod Edits
 pub mod Steps
 pub mod Inner
+pub mod Plans

@@ -9,7 +9,6 @@ use Rattle.squares.specs.declared.bitboard.Bitboard.{Bitboard}
 use Rattle.squares.specs.Kinds.{goodColour, otherColour, colourOf, kindOf, handKind}
 use Rattle.squares.specs.Sets.{emptyS, singleS, xorS}
 use Rattle.position.specs.Machine.{cellAt}
-use Rattle.position.specs.Inner.{OnBoard}
 use Rattle.position.specs.Sound.{sound}
 use Rattle.position.specs.Answers.{handAt}
 use Rattle.position.specs.Moves.{badMove, arriving, held, spent, numbersOf}
@@ -69,13 +68,6 @@ handFits p (Drop piece to) = holds (p .side) piece (p .hands)
 -- position as given
 unfoldable pub stepped : Position → Move → Position
 stepped p m = cond (badMove m || (not (goodColour (p .side)) || (eqb (p .ply) 65535 || not (handFits p m)))) p (carriedBy p m)
-
--- what carrying a move out asks
-pub record Movable (p : Position) (from to : ℕ) : Type 0 where
-  pub at-from : OnBoard from
-  pub at-to : OnBoard to
-  pub side : p .side ≤ 2
-  pub ply : p .ply < 65535
 
 -- what the halves of make_move ask: neither 2 nor 1 refuses
 pub record Ready (p : Position) (m : Move) : Type 0 where

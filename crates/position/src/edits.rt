@@ -9,10 +9,10 @@ ghost use Rattle.position.specs.Machine.{machine, full};
 ghost use Rattle.position.specs.Inner.{AllGood};
 ghost use Rattle.position.specs.Edits.{withCells, cellEdited, handEdited, sideEdited, plyEdited, settled};
 use crate::answers::Answer;
+use crate::answers::Told;
 use crate::cells::is_color;
 use crate::cells::on_board;
 use crate::hand::index;
-use crate::moves::with_number;
 use crate::position::Position;
 use crate::queries::is_hand;
 use crate::sound::marks_of;
@@ -67,6 +67,13 @@ fn with_board(p: Position, board: [u8; 81]) -> Position
         players,
         kinds,
     }
+}
+
+fn with_number(number: u8, p: Position) -> Answer
+    ensures { λ r. ⌜ r ≡ record { told = record { number = number; square = 0 }; position = p } ⌝ }
+{
+    let told = Told { number, square: 0 };
+    Answer { told, position: p }
 }
 
 // What the edit of a sound position `p` answers that would make it `q`.

@@ -5,6 +5,7 @@ mod edits;
 mod hand;
 mod moves;
 mod mv;
+mod plan;
 mod position;
 mod queries;
 mod sound;

@@ -3,9 +3,10 @@ ghost use mathlib.Core.Path.{_≡_};
 ghost use mathlib.Core.Bool.{_&&_, _||_};
 ghost use lib.Dec.{eqb, leb};
 ghost use Rattle.squares.specs.Kinds.{colourOf, kindOf, promotedPiece};
-ghost use Rattle.position.specs.Answers.{firstFact};
+ghost use Rattle.position.specs.Answers.{firstFact, toldQuery};
 ghost use Rattle.position.specs.Moves.{badMove, normalFacts, dropFacts, movePlayed};
 ghost use Rattle.position.specs.Steps.{Ready};
+ghost use Rattle.position.specs.Plans.{MovePlan};
 use crate::answers::Answer;
 use crate::answers::Stands;
 use crate::answers::Told;
@@ -20,12 +21,14 @@ use crate::hand::hold;
 use crate::hand::in_hand;
 use crate::hand::spend;
 use crate::mv::Move;
-use crate::mv::MoveNumbers;
+use crate::plan::Plan;
+use crate::plan::drop_plan;
+use crate::plan::normal_plan;
+use crate::plan::refused;
 use crate::position::Position;
 use crate::sound::told;
-use crate::step::arrival;
-use crate::step::carry;
-use crate::step::flag;
+use crate::step::store;
+use crate::step::turn;
 
 // ---- the facts of a move, each by itself
 
@@ -123,60 +126,57 @@ fn drop_refusal(piece: u8, t: u8, count: u8, side: u8, ply: u16) -> u8
     0
 }
 
-// ---- the two halves, of a sound position and good numbers
+// ---- the plans, of a sound position and good numbers in the two halves
 
-pub(crate) fn with_number(number: u8, p: Position) -> Answer
-    ensures { λ r. ⌜ r ≡ record { told = record { number = number; square = 0 }; position = p } ⌝ }
-{
-    let told = Told { number, square: 0 };
-    Answer { told, position: p }
-}
-
-fn make_normal(p: Position, from: u8, to: u8, promote: bool) -> Answer
+fn make_normal(p: Position, from: u8, to: u8, promote: bool) -> Plan
     requires { ⌜ Ready p (Move.Normal from to promote) ⌝ }
-    ensures { λ r. ⌜ r ≡ movePlayed p (Move.Normal from to promote) ⌝ }
+    ensures { λ r. ⌜ MovePlan p (Move.Normal from to promote) 0 r ⌝ }
 {
     let board = p.board;
     let Stands::Piece(c) = standing(&board, from) else {
-        return with_number(3, p);
+        return refused(3);
     };
-    let number = normal_refusal(c, cell(&board, to), promote, p.side, p.ply);
+    let t = cell(&board, to);
+    let number = normal_refusal(c, t, promote, p.side, p.ply);
     if number != 0 {
-        return with_number(number, p);
+        return refused(number);
     }
     let mut hands = p.hands;
-    if let Stands::Piece(t) = standing(&board, to) {
-        let more = hold(hands, p.side, t);
+    if let Stands::Piece(taken) = standing(&board, to) {
+        let more = hold(hands, p.side, taken);
         hands = more;
     }
-    let last = MoveNumbers {
-        tag: 1,
-        a: from,
-        b: to,
-        promote: flag(promote),
-    };
-    with_number(0, carry(p, from, to, arrival(promote, c), hands, last))
+    normal_plan(from, to, promote, c, t, hands)
 }
 
-fn make_drop(p: Position, piece: u8, to: u8) -> Answer
+fn make_drop(p: Position, piece: u8, to: u8) -> Plan
     requires { ⌜ Ready p (Move.Drop piece to) ⌝ }
-    ensures { λ r. ⌜ r ≡ movePlayed p (Move.Drop piece to) ⌝ }
+    ensures { λ r. ⌜ MovePlan p (Move.Drop piece to) 0 r ⌝ }
 {
     let board = p.board;
     let hands = p.hands;
     let count = in_hand(hands, p.side, piece);
-    let refusal = drop_refusal(piece, cell(&board, to), count, p.side, p.ply);
+    let c = cell(&board, to);
+    let refusal = drop_refusal(piece, c, count, p.side, p.ply);
     if refusal != 0 {
-        return with_number(refusal, p);
+        return refused(refusal);
     }
     let hands = spend(hands, p.side, piece);
-    let last = MoveNumbers {
-        tag: 2,
-        a: piece,
-        b: to,
-        promote: 0,
-    };
-    with_number(0, carry(p, to, to, piece, hands, last))
+    drop_plan(piece, to, c, hands)
+}
+
+// `first` is what refuses before the move is looked at.
+fn make_plan(p: Position, m: Move, first: Told) -> Plan
+    requires { ⌜ first ≡ toldQuery (badMove m) p ⌝ }
+    ensures { λ r. ⌜ MovePlan p m (first .square) r ⌝ }
+{
+    if first.number != 0 {
+        return refused(first.number);
+    }
+    match m {
+        Move::Normal { from, to, promote } => make_normal(p, from, to, promote),
+        Move::Drop { piece, to } => make_drop(p, piece, to),
+    }
 }
 
 impl Position {
@@ -184,15 +184,16 @@ impl Position {
         ensures { λ r. ⌜ r ≡ movePlayed self m ⌝ }
     {
         let first = told(bad_move(m), self);
-        if first.number != 0 {
-            return Answer {
-                told: first,
-                position: self,
-            };
-        }
-        match m {
-            Move::Normal { from, to, promote } => make_normal(self, from, to, promote),
-            Move::Drop { piece, to } => make_drop(self, piece, to),
-        }
+        let plan = make_plan(self, m, first);
+        // As in `step`: a function of these four calls would copy the position twice more.
+        let q = store(self, plan);
+        let q = turn(q, plan.left, plan.from);
+        let q = turn(q, plan.taken, plan.to);
+        let q = turn(q, plan.piece, plan.to);
+        let told = Told {
+            number: plan.number,
+            square: first.square,
+        };
+        Answer { told, position: q }
     }
 }

@@ -1,16 +1,17 @@
 use mathlib.Core.Path.{_≡_, sym, _∙_}
 use native.Mathlib.Omega.{arith}
 use lib.ListN.{length-map}
-use Rattle.position.specs.Machine.{machine}
+use Rattle.squares.proofs.Laws.{piece-kind}
+use Rattle.position.specs.Machine.{machine, cellAt}
 use Rattle.position.specs.Answers.{firstFact}
-use Rattle.position.specs.Moves.{ruleFacts, numbersOf, spent, next}
-use Rattle.position.specs.Steps.{carried}
+use Rattle.position.specs.Moves.{ruleFacts, spent, next}
+use Rattle.position.specs.Plans.{dropPlan}
 use Rattle.position.specs.declared.mv.Move.the-variants.{Drop}
 use Rattle.position.proofs.InOrder.{Sized}
-use Rattle.squares.proofs.Laws.{piece-kind}
 use Rattle.position.proofs.Ladder.{CanDrop, drop-passes, rule-refuses, rule-passes}
 use Rattle.position.proofs.Kept.{drop-carried}
-use Rattle.position.proofs.Halves.{drop-numbers, sound-side, drop-held, drop-movable}
+use Rattle.position.proofs.Halves.{drop-numbers, sound-side, drop-held, drop-fits}
+use Rattle.position.proofs.Playing.{plan-refuses, plan-moves, drop-number, drop-plays}
 use borrow.Author.Needs.{needs}
 use Rattle.position.proofs.moves.make_drop.Statement.{statement}
 use Rattle.position.proofs.moves.make_drop.Tie as tie
@@ -36,30 +37,27 @@ module _ (q : tie.After-drop-refusal) where
 can : (q : tie.Else1) → CanDrop (machine (start (q .before) .args .p)) (start (q .before) .args .piece) (start (q .before) .args .to)
 can q = drop-passes _ _ _ (start (q .before) .pre .good) (sym (number (q .before)) ∙ q .if1 .left)
 
+planned : (c : tie.After-drop-plan)
+    → let s = start (c .before .before .before) in
+    c .drop-plan .result
+    ≡ dropPlan (s .args .piece) (s .args .to) (cellAt (s .args .p .board) (s .args .to)) (spent (s .args .p .side) (s .args .piece) (s .args .p .hands))
+planned c = rw (← c .before .spend .ensures, ← c .before .before .before .before .cell .ensures) (c .drop-plan .ensures)
+
 in-hand-requires : tie.Need-in-hand-requires
-in-hand-requires c κs = let s = c .before .before in
-    let w = sound-side (s .args .p) (size s) (s .pre .whole) in
-    (w .0, w .1, piece-kind _ (drop-numbers _ _ (s .pre .good) .0) .0)
+in-hand-requires c κs = let s = c .before .before in let w = sound-side (s .args .p) (size s) (s .pre .whole) in (w .0, w .1, piece-kind _ (drop-numbers _ _ (s .pre .good) .0) .0)
 
 cell-requires : tie.Need-cell-requires
 cell-requires c κs = drop-numbers _ _ (c .before .before .before .before .pre .good) .1
 
 returns : tie.Need-returns
-returns c = let q = c .before .before in c .with-number .ensures ∙ rule-refuses _ _ (start q .pre) _ (number q) (c .before .if1 .taken)
+returns c = let q = c .before .before in plan-refuses _ _ _ _ _ (c .refused .ensures) (c .before .if1 .taken) (rule-refuses _ _ (start q .pre) _ (number q) (c .before .if1 .taken))
 
 spend-requires : tie.Need-spend-requires
 spend-requires c κs = let s = start (c .before) in drop-held (s .args .p) (size s) (s .pre .whole) _ _ (can c)
 
-carry-requires : tie.Need-carry-requires
-carry-requires c κs = let s = start (c .before .before) in drop-movable (s .args .p) (size s) (s .pre .whole) (omega (arith, s .good)) _ _ (can (c .before))
-
 returns-2 : tie.Need-returns-2
-unfolding numbersOf next
-returns-2 c = let q = c .before .before .before in
-    let s = start (q .before) in
-    let e : c .before .carry .result ≡ carried (s .args .p) (s .args .to) (s .args .to) (s .args .piece) (spent (s .args .p .side) (s .args .piece) (s .args .p .hands)) (numbersOf (Drop (s .args .piece) (s .args .to))) =
-    rw (← c .before .before .spend .ensures) (c .before .carry .ensures) in
-    c .with-number2 .ensures ∙ rule-passes _ _ (s .pre) _ (sym (number (q .before)) ∙ q .if1 .left) (e ∙ drop-carried (s .args .p) (size s) (s .pre .whole) _ _ (can q))
+unfolding next
+returns-2 c = let q = c .before .before in let s = start (q .before) in let k = can q in plan-moves _ _ _ _ (planned c) (drop-number _ _ _ _) (drop-fits (s .args .p) (size s) (s .pre .whole) (omega (arith, s .good)) _ _ _ _ k) (rule-passes _ _ (s .pre) _ (sym (number (q .before)) ∙ q .if1 .left) (drop-plays (s .args .p) (size s .board) _ _ _ (k .goal) ∙ drop-carried (s .args .p) (size s) (s .pre .whole) _ _ k))
 
 pub make-drop-spec : {M : Type 1} → statement M
 make-drop-spec =
@@ -71,6 +69,5 @@ make-drop-spec =
     (search needs)
     returns
     spend-requires
-    carry-requires
     (search needs)
     returns-2)

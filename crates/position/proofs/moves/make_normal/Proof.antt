@@ -1,18 +1,19 @@
 use mathlib.Core.Path.{_≡_, refl, sym, ap, _∙_}
+use mathlib.Core.Logic.{⊎-elim}
 use Prim.Native.Nat.{ℕ}
 use native.Mathlib.Omega.{arith}
 use lib.ListN.{length-map}
+use borrow.Author.Tests.{eqb-false}
 use Rattle.position.specs.Machine.{machine, cellAt}
 use Rattle.position.specs.Answers.{firstFact}
-use mathlib.Core.Logic.{⊎-elim}
-use Rattle.position.specs.Moves.{ruleFacts, numbersOf, arriving, held, next}
-use Rattle.position.specs.Steps.{carried}
+use Rattle.position.specs.Moves.{ruleFacts, held, next}
+use Rattle.position.specs.Plans.{normalPlan}
 use Rattle.position.specs.declared.mv.Move.the-variants.{Normal}
 use Rattle.position.proofs.InOrder.{Sized}
 use Rattle.position.proofs.Ladder.{CanMove, normal-passes, rule-refuses, rule-passes}
 use Rattle.position.proofs.Kept.{normal-carried}
-use Rattle.position.proofs.Halves.{stood-nothing, stood-piece, held-nothing, normal-squares, empty-start, sound-room, normal-movable}
-use borrow.Author.Tests.{eqb-false}
+use Rattle.position.proofs.Halves.{stood-nothing, stood-piece, held-nothing, normal-squares, empty-start, sound-room, normal-fits}
+use Rattle.position.proofs.Playing.{plan-refuses, plan-moves, normal-number, normal-plays}
 use borrow.Author.Needs.{needs}
 use Rattle.position.proofs.moves.make_normal.Statement.{statement}
 use Rattle.position.proofs.moves.make_normal.Tie as tie
@@ -65,13 +66,20 @@ module _ (q : tie.At-match2-came) where
       (λ w. w .2 ∙ held-nothing _ _ _ (stood-nothing _ (sym (q .before .standing2 .ensures) ∙ w .1 .given .1)))
       (q .match2 .came)
 
+planned : (c : tie.After-normal-plan)
+    → let s = from-start (passed (c .before) .before) in
+    c .normal-plan .result
+    ≡ normalPlan (s .args .from) (s .args .to) (s .args .promote) (cellAt (s .args .p .board) (s .args .from)) (cellAt (s .args .p .board) (s .args .to))
+    (held (s .args .p .side) (cellAt (s .args .p .board) (s .args .to)) (s .args .p .hands))
+planned c =
+    let r = passed (c .before) .before in
+    rw (← hands-are (c .before), ← piece (r .before .before .before) .0, ← r .before .cell .ensures) (c .normal-plan .ensures)
+
 standing-requires : tie.Need-standing-requires
 standing-requires c κs = normal-squares _ _ _ (c .before .before .pre .good) .0
 
 returns : tie.Need-returns
-returns c = let q = c .before .before .before in
-    let s = q .before .before .before in
-    c .with-number .ensures ∙ rule-refuses _ _ (s .pre) 3 (empty-start (s .args .p) _ _ _ (stood-nothing _ (sym (q .standing .ensures) ∙ c .before .enum-told .given .1))) (eqb-false 3 0 refl)
+returns c = let q = c .before .before .before in let s = q .before .before .before in plan-refuses _ _ _ 3 _ (c .refused .ensures) (eqb-false 3 0 refl) (rule-refuses _ _ (s .pre) 3 (empty-start (s .args .p) _ _ _ (stood-nothing _ (sym (q .standing .ensures) ∙ c .before .enum-told .given .1))) (eqb-false 3 0 refl))
 
 cell-requires : tie.Need-cell-requires
 cell-requires c κs = normal-squares _ _ _ (start (c .before) .pre .good) .1
@@ -80,7 +88,7 @@ normal-refusal-requires : tie.Need-normal-refusal-requires
 normal-refusal-requires c κs = let q = c .before .before in λ z. piece q .1 (sym (piece q .0) ∙ z)
 
 returns-2 : tie.Need-returns-2
-returns-2 c = let q = c .before .before in c .with-number2 .ensures ∙ rule-refuses _ _ (from-start q .pre) _ (number q) (c .before .if1 .taken)
+returns-2 c = let q = c .before .before in plan-refuses _ _ _ _ _ (c .refused2 .ensures) (c .before .if1 .taken) (rule-refuses _ _ (from-start q .pre) _ (number q) (c .before .if1 .taken))
 
 standing-requires-2 : tie.Need-standing-requires-2
 standing-requires-2 c κs = normal-squares _ _ _ (from-start (c .before .before .before) .pre .good) .1
@@ -88,18 +96,9 @@ standing-requires-2 c κs = normal-squares _ _ _ (from-start (c .before .before 
 hold-requires : tie.Need-hold-requires
 hold-requires c κs = let s = from-start (c .before .before .before .before .before .before .before) in sound-room (s .args .p) (size s) (s .pre .whole) _
 
-carry-requires : tie.Need-carry-requires
-carry-requires c κs = let q = passed (c .before .before) in let s = from-start (q .before) in normal-movable (s .args .p) (size s) (s .pre .whole) (omega (arith, s .good)) _ _ _ (can q)
-
 returns-3 : tie.Need-returns-3
-unfolding numbersOf next
-returns-3 c = let j = c .before .before .before .before in
-    let q = passed j in
-    let t = from-start (q .before) in
-    let e : c .before .carry .result ≡ carried (t .args .p) (t .args .from) (t .args .to) (arriving (t .args .promote) (cellAt (t .args .p .board) (t .args .from)))
-    (held (t .args .p .side) (cellAt (t .args .p .board) (t .args .to)) (t .args .p .hands)) (numbersOf (Normal (t .args .from) (t .args .to) (t .args .promote))) =
-    rw (← hands-are j, ← piece (q .before .before .before .before) .0, ← c .before .before .arrival .ensures, ← c .before .before .before .flag .ensures) (c .before .carry .ensures) in
-    c .with-number3 .ensures ∙ rule-passes _ _ (t .pre) _ (sym (number (q .before)) ∙ q .if1 .left) (e ∙ normal-carried (t .args .p) (size t) (t .pre .whole) _ _ _ (can q))
+unfolding next
+returns-3 c = let q = passed (c .before) in let s = from-start (q .before) in let k = can q in plan-moves _ _ _ _ (planned c) (normal-number _ _ _ _ _ _) (normal-fits (s .args .p) (size s) (s .pre .whole) (omega (arith, s .good)) _ _ _ _ _ _ k) (rule-passes _ _ (s .pre) _ (sym (number (q .before)) ∙ q .if1 .left) (normal-plays (s .args .p) (size s .board) _ _ _ _ (k .start) (k .goal) ∙ normal-carried (s .args .p) (size s) (s .pre .whole) _ _ _ k))
 
 pub make-normal-spec : {M : Type 1} → statement M
 make-normal-spec =
@@ -118,8 +117,5 @@ make-normal-spec =
     (search needs)
     hold-requires
     (search needs)
-    (search needs)
-    (search needs)
-    carry-requires
     (search needs)
     returns-3)

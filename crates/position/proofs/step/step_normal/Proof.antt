@@ -1,15 +1,24 @@
+use Prim.Native.Nat.{ℕ}
+use mathlib.Core.List.{List}
 use mathlib.Core.Path.{_≡_, sym, _∙_}
 use native.Mathlib.Omega.{arith}
+use lib.ListN.{length, length-map}
 use borrow.Author.Tests.{not-true, not-false}
-use Rattle.position.specs.Moves.{numbersOf}
-use Rattle.position.specs.Steps.{carriedBy, handFits}
-use Rattle.position.specs.declared.mv.Move.the-variants.{Normal}
 use Rattle.squares.proofs.Laws.{colour-range}
+use Rattle.position.specs.Machine.{cellAt}
+use Rattle.position.specs.Moves.{held}
+use Rattle.position.specs.Steps.{carriedBy, handFits}
+use Rattle.position.specs.Plans.{normalPlan, Playable}
+use Rattle.position.specs.declared.mv.Move.the-variants.{Normal}
 use Rattle.position.proofs.Halves.{normal-squares}
-use Rattle.position.proofs.Stepping.{step-keeps, step-does, step-movable, room-fits}
+use Rattle.position.proofs.Playing.{plan-keeps, plan-steps, normal-plays}
+use Rattle.position.proofs.Stepping.{step-keeps, step-does, step-fits, room-fits}
 use borrow.Author.Needs.{needs}
 use Rattle.position.proofs.step.step_normal.Statement.{statement}
 use Rattle.position.proofs.step.step_normal.Tie as tie
+
+size : (s : tie.Start) → length (s .args .p .board) ≡ 81
+size s = omega (arith, length-map (s .args .p .board) (denote.Struct.Field.u8-field .into), s .good)
 
 module _ (q : tie.After-has-room) where
   abbrev start : tie.Start
@@ -19,6 +28,21 @@ module _ (q : tie.After-has-room) where
   unfolding handFits
   fits = rw (← q .before .cell .ensures) (q .has-room .ensures)
 
+  on-board : (hands : List ℕ)
+      → Playable (start .args .p)
+      (normalPlan (start .args .from) (start .args .to) (start .args .promote) (cellAt (start .args .p .board) (start .args .from)) (cellAt (start .args .p .board) (start .args .to)) hands)
+  unfolding normalPlan
+  on-board hands = let b = normal-squares _ _ _ (start .pre .good) in step-fits _ _ (start .pre) _ (omega (arith, start .good)) (b .0) (b .1)
+
+planned : (c : tie.After-normal-plan)
+    → let s = start (c .before .before .before .before .before) in
+    c .normal-plan .result
+    ≡ normalPlan (s .args .from) (s .args .to) (s .args .promote) (cellAt (s .args .p .board) (s .args .from)) (cellAt (s .args .p .board) (s .args .to))
+    (held (s .args .p .side) (cellAt (s .args .p .board) (s .args .to)) (s .args .p .hands))
+planned c =
+    let q = c .before .before .before .before .before in
+    rw (← q .before .cell .ensures, ← c .before .hold .ensures, ← c .before .before .cell2 .ensures) (c .normal-plan .ensures)
+
 cell-requires : tie.Need-cell-requires
 cell-requires c κs = normal-squares _ _ _ (c .before .before .before .pre .good) .1
 
@@ -26,25 +50,17 @@ has-room-requires : tie.Need-has-room-requires
 has-room-requires c κs = colour-range _ (c .before .before .before .before .pre .side)
 
 returns : tie.Need-returns
-returns c = let q = c .before in step-keeps _ _ (start q .pre) (sym (fits q) ∙ not-true _ (c .if1 .taken))
+returns c = let q = c .before .before in plan-keeps _ _ _ (c .refused .ensures) (step-keeps _ _ (start q .pre) (sym (fits q) ∙ not-true _ (c .before .if1 .taken)))
 
 cell-requires-2 : tie.Need-cell-requires-2
 cell-requires-2 c κs = normal-squares _ _ _ (start (c .before .before) .pre .good) .0
 
 hold-requires : tie.Need-hold-requires
-hold-requires c κs = let q = c .before .before .before in room-fits _ _ _ (start (q .before) .pre .side) (sym (q .before .has-room .ensures) ∙ not-false _ (q .if1 .left))
-
-carry-requires : tie.Need-carry-requires
-carry-requires c κs = let s = start (c .before .before .before .before .before .before) in
-    let b = normal-squares _ _ _ (s .pre .good) in
-    step-movable _ _ (s .pre) _ _ (omega (arith, s .good)) (b .0) (b .1)
+hold-requires c κs = let q = c .before .before in room-fits _ _ _ (start (q .before) .pre .side) (sym (q .before .has-room .ensures) ∙ not-false _ (q .if1 .left))
 
 returns-2 : tie.Need-returns-2
-unfolding carriedBy numbersOf
-returns-2 c = let a = c .before .before .before in
-    let e = a .before .before .before in
-    step-does _ _ (start (e .before) .pre) (c .carry .result) (sym (fits (e .before)) ∙ not-false _ (e .if1 .left))
-    (rw (← e .before .before .cell .ensures, ← c .before .before .hold .ensures, ← a .before .cell2 .ensures, ← a .arrival .ensures, ← c .before .flag .ensures) (c .carry .ensures))
+unfolding carriedBy
+returns-2 c = let e = c .before .before .before .before in let s = start (e .before) in let b = normal-squares _ _ _ (s .pre .good) in plan-steps _ _ _ _ (planned c) (on-board (e .before) _) (step-does _ _ (s .pre) _ (sym (fits (e .before)) ∙ not-false _ (e .if1 .left)) (normal-plays (s .args .p) (size s) _ _ _ _ (b .0) (b .1)))
 
 pub step-normal-spec : {M : Type 1} → statement M
 step-normal-spec =
@@ -52,10 +68,9 @@ step-normal-spec =
     (tie.spec
     cell-requires
     has-room-requires
+    (search needs)
     returns
     cell-requires-2
-    (search needs)
     hold-requires
     (search needs)
-    carry-requires
     returns-2)

@@ -1,7 +1,7 @@
 use Rattle.position.specs.Moves.{arriving}
 use borrow.Author.Needs.{needs}
-use Rattle.position.proofs.step.arrival.Statement.{statement}
-use Rattle.position.proofs.step.arrival.Tie as tie
+use Rattle.position.proofs.plan.arrival.Statement.{statement}
+use Rattle.position.proofs.plan.arrival.Tie as tie
 
 returns : tie.Need-returns
 unfolding arriving

@@ -1,0 +1,94 @@
+-- A move planned in numbers, and what the functions of a move promise one another. No public promise cites this file.
+use Prim.Native.Nat.{ℕ, _+_, _-_, _≤_, _<_}
+use mathlib.Core.Path.{_≡_}
+use mathlib.Core.Bool.{Bool, cond}
+use mathlib.Core.List.{List}
+use lib.ListN.{set, replicate}
+use lib.Dec.{eqb}
+use Rattle.squares.specs.Kinds.{otherColour, colourOf, kindOf}
+use Rattle.squares.specs.Sets.{singleS}
+use Rattle.position.specs.Machine.{noMove}
+use Rattle.position.specs.Moves.{arriving, numbersOf, movePlayed}
+use Rattle.position.specs.Steps.{toggled, kingAfter, stepped}
+use Rattle.position.specs.Inner.{OnBoard}
+use Rattle.position.specs.declared.position.Position.{Position}
+use Rattle.position.specs.declared.plan.Plan.{Plan}
+use Rattle.position.specs.declared.mv.Move.{Move}
+use Rattle.position.specs.declared.mv.Move.the-variants.{Normal, Drop}
+
+-- nothing is done, for the number n
+unfoldable pub refusedBy : ℕ → Plan
+refusedBy n = record { number = n; from = 1; to = 1; left = 0; taken = 0; piece = 0; hands = replicate 14 0; last = noMove }
+
+-- the piece c leaves from; on to stood t
+unfoldable pub normalPlan : ℕ → ℕ → Bool → ℕ → ℕ → List ℕ → Plan
+normalPlan from to promote c t hands =
+    record {
+      number = 0;
+      from = from;
+      to = to;
+      left = c;
+      taken = cond (eqb from to) 0 t;
+      piece = arriving promote c;
+      hands = hands;
+      last = numbersOf (Normal from to promote);
+    }
+
+-- the square is emptied of c, and the piece put there
+unfoldable pub dropPlan : ℕ → ℕ → ℕ → List ℕ → Plan
+dropPlan piece to c hands =
+    record { number = 0; from = to; to = to; left = c; taken = 0; piece = piece; hands = hands; last = numbersOf (Drop piece to) }
+
+-- the position with all that the plan changes but the sets
+unfoldable pub storedBy : Position → Plan → Position
+storedBy p plan =
+    cond (eqb (plan .number) 0)
+    (record {
+      board = set (set (p .board) (plan .from - 1) 0) (plan .to - 1) (plan .piece);
+      hands = plan .hands;
+      bking = kingAfter 8 (p .bking) (plan .left) (plan .taken) (plan .piece) (plan .to);
+      wking = kingAfter 24 (p .wking) (plan .left) (plan .taken) (plan .piece) (plan .to);
+      side = otherColour (p .side);
+      last = plan .last;
+      ply = p .ply + 1;
+      players = p .players;
+      kinds = p .kinds;
+    })
+    p
+
+-- the square n leaves the sets of the cell x, or joins them
+unfoldable pub turnedAt : Position → ℕ → ℕ → Position
+turnedAt p x n =
+    record {
+      board = p .board;
+      hands = p .hands;
+      bking = p .bking;
+      wking = p .wking;
+      side = p .side;
+      last = p .last;
+      ply = p .ply;
+      players = toggled (p .players) (colourOf x) (singleS n);
+      kinds = toggled (p .kinds) (kindOf x) (singleS n);
+    }
+
+-- the plan carried out
+unfoldable pub playedBy : Position → Plan → Position
+playedBy p plan =
+    turnedAt (turnedAt (turnedAt (storedBy p plan) (plan .left) (plan .from)) (plan .taken) (plan .to)) (plan .piece) (plan .to)
+
+-- what carrying a plan out asks
+pub record Playable (p : Position) (plan : Plan) : Type 0 where
+  pub at-from : OnBoard (plan .from)
+  pub at-to : OnBoard (plan .to)
+  pub side : plan .number ≡ 0 → p .side ≤ 2
+  pub ply : plan .number ≡ 0 → p .ply < 65535
+
+-- a plan that does what the step is to do
+pub record StepPlan (p : Position) (m : Move) (plan : Plan) : Type 0 where
+  pub fits : Playable p plan
+  pub does : playedBy p plan ≡ stepped p m
+
+-- a plan that does what make_move is to do; square is the one that it answers
+pub record MovePlan (p : Position) (m : Move) (square : ℕ) (plan : Plan) : Type 0 where
+  pub fits : Playable p plan
+  pub does : record { told = record { number = plan .number; square = square }; position = playedBy p plan } ≡ movePlayed p m

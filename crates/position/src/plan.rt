@@ -1,0 +1,106 @@
+// What a move will do, in numbers: known before the position is copied, so that the copy is changed in place.
+ghost use mathlib.Core.Path.{_≡_};
+ghost use mathlib.Core.Bool.{cond};
+ghost use lib.Dec.{eqb};
+ghost use Rattle.position.specs.Moves.{arriving};
+ghost use Rattle.position.specs.Plans.{refusedBy, normalPlan, dropPlan};
+use crate::cells::promoted;
+use crate::mv::MoveNumbers;
+
+// `left` leaves `from`, `taken` leaves `to`, `piece` comes to `to`. A number but 0: nothing is done.
+pub struct Plan {
+    pub number: u8,
+    pub from: u8,
+    pub to: u8,
+    pub left: u8,
+    pub taken: u8,
+    pub piece: u8,
+    pub hands: [u8; 14],
+    pub last: MoveNumbers,
+}
+
+pub(crate) fn refused(number: u8) -> Plan
+    ensures { λ r. ⌜ r ≡ refusedBy number ⌝ }
+{
+    let hands = [0u8; 14];
+    let last = MoveNumbers {
+        tag: 0,
+        a: 0,
+        b: 0,
+        promote: 0,
+    };
+    Plan {
+        number,
+        from: 1,
+        to: 1,
+        left: 0,
+        taken: 0,
+        piece: 0,
+        hands,
+        last,
+    }
+}
+
+// The piece that arrives: promoted if asked.
+fn arrival(promote: bool, c: u8) -> u8
+    ensures { λ r. ⌜ r ≡ arriving promote c ⌝ }
+{
+    if promote { promoted(c) } else { c }
+}
+
+fn flag(promote: bool) -> u8
+    ensures { λ r. ⌜ r ≡ cond promote 1 0 ⌝ }
+{
+    if promote { 1 } else { 0 }
+}
+
+// What stands on `to`, where `t` stood, once `from` is empty.
+fn taken_on(from: u8, to: u8, t: u8) -> u8
+    ensures { λ r. ⌜ r ≡ cond (eqb from to) 0 t ⌝ }
+{
+    if from == to { 0 } else { t }
+}
+
+// The piece `c` goes to a square where `t` stands; `hands` are those after it.
+pub(crate) fn normal_plan(from: u8, to: u8, promote: bool, c: u8, t: u8, hands: [u8; 14]) -> Plan
+    ensures { λ r. ⌜ r ≡ normalPlan from to promote c t hands ⌝ }
+{
+    let last = MoveNumbers {
+        tag: 1,
+        a: from,
+        b: to,
+        promote: flag(promote),
+    };
+    Plan {
+        number: 0,
+        from,
+        to,
+        left: c,
+        taken: taken_on(from, to, t),
+        piece: arrival(promote, c),
+        hands,
+        last,
+    }
+}
+
+// The square is emptied first, of `c`: where a drop is accepted it is empty.
+pub(crate) fn drop_plan(piece: u8, to: u8, c: u8, hands: [u8; 14]) -> Plan
+    ensures { λ r. ⌜ r ≡ dropPlan piece to c hands ⌝ }
+{
+    let last = MoveNumbers {
+        tag: 2,
+        a: piece,
+        b: to,
+        promote: 0,
+    };
+    Plan {
+        number: 0,
+        from: to,
+        to,
+        left: c,
+        taken: 0,
+        piece,
+        hands,
+        last,
+    }
+}
