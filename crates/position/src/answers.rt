@@ -53,8 +53,9 @@ pub struct LastAnswer {
     pub last: LastMove,
 }
 
-// Of a call that changes a position: the position after it, or as given.
+// Of a call that changes a position: the position after it, or as given. It stands first, so that no unused bytes lie
+// before it and it is copied once.
 pub struct Answer {
-    pub told: Told,
     pub position: Position,
+    pub told: Told,
 }
