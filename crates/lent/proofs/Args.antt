@@ -99,7 +99,7 @@ abbrev pub vals : Position → List Val
 vals = LL.vals T.the-type T′.the-laws
 
 pub position-is : (r : Answer) (vs : List Val) → Is S.the-row r vs → Is T.the-row (r .position) (vals (r .position))
-position-is r vs is = LL.owed S.the-type S′.the-laws r vs is .1 .0
+position-is r vs is = LL.owed S.the-type S′.the-laws r vs is .0
 
 abbrev pub told-arg : Arg
 told-arg = struct-arg D.the-type D′.the-laws
@@ -108,4 +108,4 @@ pub told-lawful : Lawful told-arg
 told-lawful = struct-lawful D.the-type D′.the-laws D′.the-plain
 
 pub told-is : (r : Answer) (vs : List Val) → Is S.the-row r vs → Is (row told-arg) (r .told) (told-arg .val (r .told) ∷ [])
-told-is r vs is = LL.owed S.the-type S′.the-laws r vs is .0
+told-is r vs is = LL.owed S.the-type S′.the-laws r vs is .1 .0

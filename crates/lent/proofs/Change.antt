@@ -55,8 +55,8 @@ fn1 τ1 g = record {
   locals = local (told-arg .ty) valueLocal ∷ local (tyRef (named 0) mut (pointee (T.the-row .written))) valueLocal ∷ local τ1 valueLocal ∷ local S′.mir valueLocal ∷ local T′.mir valueLocal ∷ [];
   body = seq (assign (place 4 []) (rvOpd (copy (place 1 (deref T′.mir ∷ []))))) (
       seq (call g (copy (place 4 []) ∷ copy (place 2 []) ∷ []) (place 3 [])) (
-      seq (assign (place 1 (deref T′.mir ∷ [])) (rvOpd (copy (place 3 (field 1 ∷ []))))) (
-      seq (assign (place 0 []) (rvOpd (copy (place 3 (field 0 ∷ []))))) return)));
+      seq (assign (place 1 (deref T′.mir ∷ [])) (rvOpd (copy (place 3 (field 0 ∷ []))))) (
+      seq (assign (place 0 []) (rvOpd (copy (place 3 (field 1 ∷ []))))) return)));
 }
 
 module _ (X1 : Arg) where
@@ -136,10 +136,10 @@ module _ (X1 : Arg) (L1 : Lawful X1) (P : Position → X1 .D → Answer → Type
             facts ! S.the-row (Is S.the-row) (shows 𝓤 H A S.the-row) r (v ∷ []) (λ is.
             land ! (from ! (stop !)) (init ! 9 refl (LL.lawful S.the-type S′.the-laws 𝓤 H A W .typed r _ is .0)) $
             rewrite ! 9 (λ (u : Val). ‵ (fat fullShare S′.mir l3 0 u)) (ap only (LL.tells S.the-type S′.the-laws r _ is)) refl $
-            -- *_1 = _3.1;  _0 = _3.0
-            assigns ! (of-opd ! (load ! (from ! (fld ! refl (stop !))) (look-in ! 9 (sub ! 1 refl (whole !))))) (from ! (hop ! (look ! 13 refl) (stop !)))
+            -- *_1 = _3.0;  _0 = _3.1
+            assigns ! (of-opd ! (load ! (from ! (fld ! refl (stop !))) (look-in ! 9 (sub ! 0 refl (whole !))))) (from ! (hop ! (look ! 13 refl) (stop !)))
             (store-raw ! 0 refl (LL.lawful T.the-type T′.the-laws 𝓤 H A W .typed (r .position) _ (position-is r _ is) .0)) $
-            assigns ! (of-opd ! (load ! (from ! (fld ! refl (stop !))) (look-in ! 9 (sub ! 0 refl (whole !))))) (from ! (stop !)) (init ! 15 refl (told-lawful .typed-at 𝓤 H A W (r .told) _ (told-is r _ is))) $
+            assigns ! (of-opd ! (load ! (from ! (fld ! refl (stop !))) (look-in ! 9 (sub ! 1 refl (whole !))))) (from ! (stop !)) (init ! 15 refl (told-lawful .typed-at 𝓤 H A W (r .told) _ (told-is r _ is))) $
             -- the borrow is closed at the new position
             move ! (1 ∷ []) $ drop ! $ owned ! T.the-row (Is T.the-row) (LL.makes T.the-type T′.the-plain 𝓤 H A) (r .position) _ (position-is r _ is) $ move ! (1 ∷ 0 ∷ []) $ closes ! tt T.the-row (r .position) (vals (r .position)) b o $
             -- [obs; the borrow; the token; true; what the arguments own; the locals, as before]
@@ -165,8 +165,8 @@ fn2 τ1 τ2 g = record {
   locals = local (told-arg .ty) valueLocal ∷ local (tyRef (named 0) mut (pointee (T.the-row .written))) valueLocal ∷ local τ1 valueLocal ∷ local τ2 valueLocal ∷ local S′.mir valueLocal ∷ local T′.mir valueLocal ∷ [];
   body = seq (assign (place 5 []) (rvOpd (copy (place 1 (deref T′.mir ∷ []))))) (
       seq (call g (copy (place 5 []) ∷ copy (place 2 []) ∷ copy (place 3 []) ∷ []) (place 4 [])) (
-      seq (assign (place 1 (deref T′.mir ∷ [])) (rvOpd (copy (place 4 (field 1 ∷ []))))) (
-      seq (assign (place 0 []) (rvOpd (copy (place 4 (field 0 ∷ []))))) return)));
+      seq (assign (place 1 (deref T′.mir ∷ [])) (rvOpd (copy (place 4 (field 0 ∷ []))))) (
+      seq (assign (place 0 []) (rvOpd (copy (place 4 (field 1 ∷ []))))) return)));
 }
 
 module _ (X1 : Arg) (X2 : Arg) where
@@ -246,10 +246,10 @@ module _ (X1 : Arg) (X2 : Arg) (L1 : Lawful X1) (L2 : Lawful X2) (P : Position �
             facts ! S.the-row (Is S.the-row) (shows 𝓤 H A S.the-row) r (v ∷ []) (λ is.
             land ! (from ! (stop !)) (init ! 9 refl (LL.lawful S.the-type S′.the-laws 𝓤 H A W .typed r _ is .0)) $
             rewrite ! 9 (λ (u : Val). ‵ (fat fullShare S′.mir l4 0 u)) (ap only (LL.tells S.the-type S′.the-laws r _ is)) refl $
-            -- *_1 = _4.1;  _0 = _4.0
-            assigns ! (of-opd ! (load ! (from ! (fld ! refl (stop !))) (look-in ! 9 (sub ! 1 refl (whole !))))) (from ! (hop ! (look ! 15 refl) (stop !)))
+            -- *_1 = _4.0;  _0 = _4.1
+            assigns ! (of-opd ! (load ! (from ! (fld ! refl (stop !))) (look-in ! 9 (sub ! 0 refl (whole !))))) (from ! (hop ! (look ! 15 refl) (stop !)))
             (store-raw ! 0 refl (LL.lawful T.the-type T′.the-laws 𝓤 H A W .typed (r .position) _ (position-is r _ is) .0)) $
-            assigns ! (of-opd ! (load ! (from ! (fld ! refl (stop !))) (look-in ! 9 (sub ! 0 refl (whole !))))) (from ! (stop !)) (init ! 17 refl (told-lawful .typed-at 𝓤 H A W (r .told) _ (told-is r _ is))) $
+            assigns ! (of-opd ! (load ! (from ! (fld ! refl (stop !))) (look-in ! 9 (sub ! 1 refl (whole !))))) (from ! (stop !)) (init ! 17 refl (told-lawful .typed-at 𝓤 H A W (r .told) _ (told-is r _ is))) $
             -- the borrow is closed at the new position
             move ! (1 ∷ []) $ drop ! $ owned ! T.the-row (Is T.the-row) (LL.makes T.the-type T′.the-plain 𝓤 H A) (r .position) _ (position-is r _ is) $ move ! (1 ∷ 0 ∷ []) $ closes ! tt T.the-row (r .position) (vals (r .position)) b o $
             -- [obs; the borrow; the token; true; what the arguments own; the locals, as before]
@@ -275,8 +275,8 @@ fn3 τ1 τ2 τ3 g = record {
   locals = local (told-arg .ty) valueLocal ∷ local (tyRef (named 0) mut (pointee (T.the-row .written))) valueLocal ∷ local τ1 valueLocal ∷ local τ2 valueLocal ∷ local τ3 valueLocal ∷ local S′.mir valueLocal ∷ local T′.mir valueLocal ∷ [];
   body = seq (assign (place 6 []) (rvOpd (copy (place 1 (deref T′.mir ∷ []))))) (
       seq (call g (copy (place 6 []) ∷ copy (place 2 []) ∷ copy (place 3 []) ∷ copy (place 4 []) ∷ []) (place 5 [])) (
-      seq (assign (place 1 (deref T′.mir ∷ [])) (rvOpd (copy (place 5 (field 1 ∷ []))))) (
-      seq (assign (place 0 []) (rvOpd (copy (place 5 (field 0 ∷ []))))) return)));
+      seq (assign (place 1 (deref T′.mir ∷ [])) (rvOpd (copy (place 5 (field 0 ∷ []))))) (
+      seq (assign (place 0 []) (rvOpd (copy (place 5 (field 1 ∷ []))))) return)));
 }
 
 module _ (X1 : Arg) (X2 : Arg) (X3 : Arg) where
@@ -356,10 +356,10 @@ module _ (X1 : Arg) (X2 : Arg) (X3 : Arg) (L1 : Lawful X1) (L2 : Lawful X2) (L3 
             facts ! S.the-row (Is S.the-row) (shows 𝓤 H A S.the-row) r (v ∷ []) (λ is.
             land ! (from ! (stop !)) (init ! 9 refl (LL.lawful S.the-type S′.the-laws 𝓤 H A W .typed r _ is .0)) $
             rewrite ! 9 (λ (u : Val). ‵ (fat fullShare S′.mir l5 0 u)) (ap only (LL.tells S.the-type S′.the-laws r _ is)) refl $
-            -- *_1 = _5.1;  _0 = _5.0
-            assigns ! (of-opd ! (load ! (from ! (fld ! refl (stop !))) (look-in ! 9 (sub ! 1 refl (whole !))))) (from ! (hop ! (look ! 17 refl) (stop !)))
+            -- *_1 = _5.0;  _0 = _5.1
+            assigns ! (of-opd ! (load ! (from ! (fld ! refl (stop !))) (look-in ! 9 (sub ! 0 refl (whole !))))) (from ! (hop ! (look ! 17 refl) (stop !)))
             (store-raw ! 0 refl (LL.lawful T.the-type T′.the-laws 𝓤 H A W .typed (r .position) _ (position-is r _ is) .0)) $
-            assigns ! (of-opd ! (load ! (from ! (fld ! refl (stop !))) (look-in ! 9 (sub ! 0 refl (whole !))))) (from ! (stop !)) (init ! 19 refl (told-lawful .typed-at 𝓤 H A W (r .told) _ (told-is r _ is))) $
+            assigns ! (of-opd ! (load ! (from ! (fld ! refl (stop !))) (look-in ! 9 (sub ! 1 refl (whole !))))) (from ! (stop !)) (init ! 19 refl (told-lawful .typed-at 𝓤 H A W (r .told) _ (told-is r _ is))) $
             -- the borrow is closed at the new position
             move ! (1 ∷ []) $ drop ! $ owned ! T.the-row (Is T.the-row) (LL.makes T.the-type T′.the-plain 𝓤 H A) (r .position) _ (position-is r _ is) $ move ! (1 ∷ 0 ∷ []) $ closes ! tt T.the-row (r .position) (vals (r .position)) b o $
             -- [obs; the borrow; the token; true; what the arguments own; the locals, as before]
