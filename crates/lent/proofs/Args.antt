@@ -98,6 +98,12 @@ struct-lawful S L plains = record { tells = LL.tells S L; makes = λ 𝓤 H A W.
 abbrev pub vals : Position → List Val
 vals = LL.vals T.the-type T′.the-laws
 
+abbrev pub position-arg : Arg
+position-arg = struct-arg T.the-type T′.the-laws
+
+pub position-lawful : Lawful position-arg
+position-lawful = struct-lawful T.the-type T′.the-laws T′.the-plain
+
 pub position-is : (r : Answer) (vs : List Val) → Is S.the-row r vs → Is T.the-row (r .position) (vals (r .position))
 position-is r vs is = LL.owed S.the-type S′.the-laws r vs is .0
 

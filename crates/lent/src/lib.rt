@@ -2,6 +2,7 @@
 ghost use mathlib.Core.Path.{_≡_};
 ghost use Rattle.lent.specs.InPlace.{Left};
 ghost use Rattle.position.specs.Moves.{movePlayed};
+use position::Answer;
 use position::Move;
 use position::Position;
 use position::Told;
@@ -12,4 +13,16 @@ pub fn make_move_in_place(p: &mut Position, m: Move) -> Told
     let r = (*p).make_move(m);
     *p = r.position;
     r.told
+}
+
+// By value again, for a caller in Rattle: a local is lent, and handed back as the call left it.
+pub fn make_move_through(p: Position, m: Move) -> Answer
+    ensures { λ r. ⌜ r ≡ movePlayed p m ⌝ }
+{
+    let mut lent = p;
+    let told = make_move_in_place(&mut lent, m);
+    Answer {
+        told,
+        position: lent,
+    }
 }
