@@ -24,7 +24,7 @@ pub fn answer(nums: &Numbers, count: usize, ans: &mut Numbers) -> usize {
     match op {
         1..=14 => set_ops::answer(op, nums, ans),
         15..=17 => number_ops::answer(op, nums, ans),
-        20..=34 => position_ops::answer(op, nums, ans),
+        20..=34 | 49 => position_ops::answer(op, nums, ans),
         35..=38 => edit_ops::answer(op, nums, ans),
         39 | 90 => text_ops::answer(op, nums, count, ans),
         _ => MALFORMED,
@@ -43,7 +43,7 @@ fn has_count(op: u64, count: usize) -> bool {
         22 | 27..=30 | 33 => count == 136,
         23..=26 | 32 | 37..=39 => count == 137,
         31 | 35 => count == 138,
-        34 => count == 140,
+        34 | 49 => count == 140,
         36 => count == 139,
         90 => count % 4 == 2,
         _ => false,

@@ -1,4 +1,4 @@
-// The calls on positions: ops 20 to 34.
+// The calls on positions: ops 20 to 34 and 49.
 use crate::numbers::MOST;
 use crate::numbers::MaybeU8;
 use crate::numbers::Numbers;
@@ -14,6 +14,7 @@ use crate::positions::put_last;
 use crate::positions::put_position;
 use crate::positions::put_set;
 use crate::positions::read;
+use lent::make_move_through;
 use position::Answer;
 use position::KingSquare;
 use position::LastMove;
@@ -42,7 +43,7 @@ pub fn answer(op: u64, nums: &Numbers, ans: &mut Numbers) -> usize {
         29 => side(p, ans),
         30 => ply(p, ans),
         33 => last_move(p, ans),
-        34 => make_move(p, nums, ans),
+        34 | 49 => make_move(op, p, nums, ans),
         _ => of_numbers(op, p, nums, ans),
     }
 }
@@ -164,11 +165,15 @@ fn move_numbers(m: Move) -> MoveNumbers {
     }
 }
 
-fn make_move(p: Position, nums: &Numbers, ans: &mut Numbers) -> usize {
+// By value, or through a lent position.
+fn make_move(op: u64, p: Position, nums: &Numbers, ans: &mut Numbers) -> usize {
     let MaybeMove::Fits(m) = read_move(nums, AFTER) else {
         return MALFORMED;
     };
-    put_answer(ans, p.make_move(m))
+    match op {
+        34 => put_answer(ans, p.make_move(m)),
+        _ => put_answer(ans, make_move_through(p, m)),
+    }
 }
 
 // The answer of a call that hands a position back.

@@ -11,6 +11,7 @@ use crate::positions::AFTER;
 use crate::positions::fits;
 use crate::positions::put_position;
 use crate::positions::read;
+use lent::make_move_through;
 use position::Position;
 use sfen::write_sfen;
 
@@ -83,7 +84,7 @@ fn play(first: Position, nums: &Numbers, count: usize, ans: &mut Numbers) -> usi
         let MaybeMove::Fits(m) = read_move(nums, 2 + 4 * i) else {
             return MALFORMED;
         };
-        let answer = p.make_move(m);
+        let answer = make_move_through(p, m);
         let told = answer.told;
         let after = answer.position;
         at = put_u8(ans, at, told.number);
