@@ -34,7 +34,7 @@ fn main() -> io::Result<()> {
 fn answer(case: &[u64], any: bool) -> Option<Vec<u64>> {
     match case[0] {
         1..=17 => sets::answer(case, any),
-        20..=39 | 90 => positions::answer(case, any),
+        20..=39 | 49 | 90 => positions::answer(case, any),
         _ => None,
     }
 }

@@ -1,4 +1,4 @@
-//! Cases about positions: ops 20 to 38. Every position comes from the crate, by calls that start from op 20 or 21.
+//! Cases about positions: ops 20 to 38 and 49. Every position comes from the crate, by calls that start from op 20 or 21.
 
 use crate::position::{color_of, CELLS, HANDS, PLY, SIDE};
 use crate::positions::answer;
@@ -54,6 +54,12 @@ pub fn after(op: u64, position: &[u64], arguments: &[u64]) -> Option<Vec<u64>> {
 impl Lines {
     pub fn put_call(&mut self, op: u64, position: &[u64], arguments: &[u64]) -> io::Result<()> {
         self.put(&case(op, position, arguments))
+    }
+
+    /// A move, by value and through a lent position.
+    fn put_move(&mut self, position: &[u64], mv: &[u64]) -> io::Result<()> {
+        self.put_call(34, position, mv)?;
+        self.put_call(49, position, mv)
     }
 
     /// An edit, unless its result leaves the shared domain.
@@ -142,7 +148,7 @@ fn drawn_calls(lines: &mut Lines, chance: &mut Chance, position: &[u64]) -> io::
     lines.put_call(31, position, &arguments)?;
     lines.put_call(32, position, &[chance.color()])?;
     for _ in 0..12 {
-        lines.put_call(34, position, &chance.mv(position))?;
+        lines.put_move(position, &chance.mv(position))?;
         let (op, arguments) = chance.edit();
         lines.put_edit(op, position, &arguments)?;
     }
@@ -154,7 +160,7 @@ fn game(lines: &mut Lines, chance: &mut Chance) -> io::Result<Vec<u64>> {
     let mut position = start();
     for _ in 0..chance.below(200) {
         let mv = chance.mv(&position);
-        lines.put_call(34, &position, &mv)?;
+        lines.put_move(&position, &mv)?;
         position = after(34, &position, &mv).unwrap_or(position);
     }
     Ok(position)

@@ -1,4 +1,4 @@
-//! Ops 20 to 39 and 90: positions, their queries, moves and edits, their texts, and games.
+//! Ops 20 to 39, 49 and 90: positions, their queries, moves and edits, their texts, and games.
 
 use crate::names::{
     byte, cell, color, color_number, holding, kind, move_numbers, mv, piece, standing, words,
@@ -41,7 +41,8 @@ pub fn answer(case: &[u64], any: bool) -> Option<Vec<u64>> {
         }
         (32, &[n]) => told(Some([king_square(&position, color(n)?)])),
         (33, []) => told(Some(move_numbers(position.last_move()))),
-        (34, numbers) => moved(position, numbers)?,
+        // The crate has one call, which changes the position in place.
+        (34 | 49, numbers) => moved(position, numbers)?,
         (35..=38, numbers) => {
             let mut edited = position;
             let number = match edit(&mut edited, *op, numbers)? {
