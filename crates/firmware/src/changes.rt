@@ -41,15 +41,15 @@ fn step_by(p: Position, m: Move) -> Answer
 fn step_normal(p: Position, from: u8, to: u8, promote: bool) -> Answer
     ensures { λ r. ⌜ r ≡ stepShown p (Move.Normal from to promote) ⌝ }
 {
-    let m = Move::Normal { from, to, promote };
-    step_by(p, m)
+    let played = Move::Normal { from, to, promote };
+    step_by(p, played)
 }
 
 fn step_drop(p: Position, piece: u8, to: u8) -> Answer
     ensures { λ r. ⌜ r ≡ stepShown p (Move.Drop piece to) ⌝ }
 {
-    let m = Move::Drop { piece, to };
-    step_by(p, m)
+    let played = Move::Drop { piece, to };
+    step_by(p, played)
 }
 
 // ---- in place
