@@ -1,7 +1,7 @@
 -- The faults that are no cell's: kings, counts, the last move.
 use mathlib.Core.Path.{_≡_, refl, sym, ap, _∙_}
 use Prim.Native.Nat.{ℕ, zero, suc, _+_, _-_, _≤_, _<_}
-use mathlib.Core.Bool.{Bool, true, false, _&&_, not, or-false, true≢false}
+use mathlib.Core.Bool.{Bool, true, false, _&&_, not, or-false}
 use mathlib.Core.List.{List}
 use native.Mathlib.Omega.{arith}
 use lib.ListN.{getD}
@@ -9,9 +9,9 @@ use lib.Dec.{eqb, leb}
 use borrow.Author.Tests.{eq-eqb, ne-eqb, le-leb, lt-leb}
 use Rattle.squares.specs.declared.bitboard.Bitboard.{Bitboard}
 use Rattle.squares.specs.Board.{onBoard}
-use Rattle.squares.specs.Kinds.{kindRow, goodKind, goodPiece}
+use Rattle.squares.specs.Kinds.{kindRow, goodPiece}
 use Rattle.squares.specs.Sets.{size, isEmpty, smallest}
-use Rattle.squares.specs.Answers.{FormValue, formIf, promotedAnswer, popAnswer}
+use Rattle.squares.specs.Answers.{promotedAnswer, popAnswer}
 use Rattle.squares.proofs.Laws.{eqb-same, promoted-small, promoted-told, promoted-none, promoted-refused, empty-size, pop-square, pop-nothing, smallest-at, smallest-none, size-none}
 use Rattle.position.specs.Sound.{goodLast}
 use Rattle.position.specs.Inner.{kingOff, promotedAt, setsSize, overBySets}
@@ -73,20 +73,11 @@ module _ (j : ℕ) (small : j < 7) where
   pub place-refused : record { number = 2; found = false; value = 0 } ≡ promotedAnswer (j + 1) → (j ≡ promotedAt j) × (j < 14)
   place-refused e = place-none (promoted-refused (j + 1) e)
 
-  pub promoted-some : (v : ℕ) → record { number = 0; found = true; value = v } ≡ promotedAnswer (j + 1) → 1 ≤ v
-  unfolding promotedAnswer
-  promoted-some v e = some (goodKind (j + 1)) (kindRow (j + 1) .promoted) e
-    where
-      some : (t : Bool) (w : ℕ) → record { number = 0; found = true; value = v } ≡ formIf t w → 1 ≤ v
-      some true zero q = absurd (true≢false (ap (λ (x : FormValue). x .found) q))
-      some true (suc w) q = let z : v ≡ suc w = ap (λ (x : FormValue). x .value) q in omega arith
-      some false w q = absurd (true≢false (ap (λ (x : FormValue). x .found) q))
-
   pub place-form : (v : ℕ) → record { number = 0; found = true; value = v } ≡ promotedAnswer (j + 1) → (v - 1 ≡ promotedAt j) × (v - 1 < 14)
   unfolding promotedAt
   place-form v e =
-      let z : v ≡ kindRow (j + 1) .promoted = promoted-told (j + 1) v e in
-      let l = promoted-some v e in
+      let t = promoted-told (j + 1) v e in
+      let z : v ≡ kindRow (j + 1) .promoted = t .0 in
       (rw (← z) (rw (ne-eqb v 0 (λ q. omega arith))), omega (arith, promoted-small (j + 1)))
 
 -- ---- the counts

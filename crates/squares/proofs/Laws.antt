@@ -1,8 +1,8 @@
 -- What a crate above may cite: the members of each set, sets given by rules, the shift law and its consequences at every
 -- direction and distance, pop, count, steps on a board of any side, and that an answer is determined by what it says.
 use mathlib.Core.Path.{_≡_, refl, sym, ap, ap₂, _∙_}
-use Prim.Native.Nat.{ℕ, _+_, _^_, _≤_, _<_}
-use mathlib.Core.Bool.{Bool, true, false, _&&_, _||_, not, Bool·beq}
+use Prim.Native.Nat.{ℕ, zero, suc, _+_, _^_, _≤_, _<_}
+use mathlib.Core.Bool.{Bool, true, false, _&&_, _||_, not, Bool·beq, true≢false}
 use mathlib.Core.Logic.{⊎-elim}
 use native.Mathlib.Omega.{arith}
 use lib.Dec.{eqb}
@@ -212,26 +212,28 @@ pub limit-refused : (k v : ℕ) → record { number = 2; value = v } ≡ limitAn
 unfolding limitAnswer
 limit-refused k v q = row-bad k (number-refused (goodKind k) v (kindRow k .limit) q) .2
 
-pub promoted-told : (k v : ℕ) → record { number = 0; found = true; value = v } ≡ promotedAnswer k → v ≡ kindRow k .promoted
+-- a form that is told is not 0: that says "nothing"
+form-told : (t : Bool) (v w : ℕ) → record { number = 0; found = true; value = v } ≡ formIf t w → (v ≡ w) × (1 ≤ v)
+form-told true v zero q = absurd (true≢false (ap (λ (x : FormValue). x .found) q))
+form-told true v (suc w) q = let z : v ≡ suc w = ap (λ (x : FormValue). x .value) q in (z, omega arith)
+form-told false v w q = let z : _≡_ {A = ℕ} 0 2 = ap (λ (x : FormValue). x .number) q in absurd (omega arith)
+
+form-none : (t : Bool) (w : ℕ) → record { number = 0; found = false; value = 0 } ≡ formIf t w → w ≡ 0
+form-none true w q = sym (ap (λ (x : FormValue). x .value) q)
+form-none false w q = let z : _≡_ {A = ℕ} 0 2 = ap (λ (x : FormValue). x .number) q in absurd (omega arith)
+
+form-refused : (t : Bool) (w : ℕ) → record { number = 2; found = false; value = 0 } ≡ formIf t w → t ≡ false
+form-refused true w q = let z : _≡_ {A = ℕ} 2 0 = ap (λ (x : FormValue). x .number) q in absurd (omega arith)
+form-refused false w q = refl
+
+pub promoted-told : (k v : ℕ) → record { number = 0; found = true; value = v } ≡ promotedAnswer k → (v ≡ kindRow k .promoted) × (1 ≤ v)
 unfolding promotedAnswer
-promoted-told k v = told (goodKind k) (kindRow k .promoted)
-  where
-    told : (t : Bool) (w : ℕ) → record { number = 0; found = true; value = v } ≡ formIf t w → v ≡ w
-    told true w q = ap (λ (x : FormValue). x .value) q
-    told false w q = let z : _≡_ {A = ℕ} 0 2 = ap (λ (x : FormValue). x .number) q in absurd (omega arith)
+promoted-told k v q = form-told (goodKind k) v (kindRow k .promoted) q
 
 pub promoted-none : (k : ℕ) → record { number = 0; found = false; value = 0 } ≡ promotedAnswer k → kindRow k .promoted ≡ 0
 unfolding promotedAnswer
-promoted-none k = told (goodKind k) (kindRow k .promoted)
-  where
-    told : (t : Bool) (w : ℕ) → record { number = 0; found = false; value = 0 } ≡ formIf t w → w ≡ 0
-    told true w q = sym (ap (λ (x : FormValue). x .value) q)
-    told false w q = let z : _≡_ {A = ℕ} 0 2 = ap (λ (x : FormValue). x .number) q in absurd (omega arith)
+promoted-none k q = form-none (goodKind k) (kindRow k .promoted) q
 
 pub promoted-refused : (k : ℕ) → record { number = 2; found = false; value = 0 } ≡ promotedAnswer k → kindRow k .promoted ≡ 0
 unfolding promotedAnswer
-promoted-refused k q = row-bad k (refused (goodKind k) (kindRow k .promoted) q) .1
-  where
-    refused : (t : Bool) (w : ℕ) → record { number = 2; found = false; value = 0 } ≡ formIf t w → t ≡ false
-    refused true w q = let z : _≡_ {A = ℕ} 2 0 = ap (λ (x : FormValue). x .number) q in absurd (omega arith)
-    refused false w q = refl
+promoted-refused k q = row-bad k (form-refused (goodKind k) (kindRow k .promoted) q) .1

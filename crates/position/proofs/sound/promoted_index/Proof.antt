@@ -1,13 +1,15 @@
+use Prim.Native.Nat.{_+_}
 use mathlib.Core.Path.{sym, ap, _∙_}
 use native.Mathlib.Omega.{arith}
 use borrow.Author.Needs.{needs}
 use Rattle.squares.specs.Answers.{formGiven}
-use Rattle.position.proofs.Elsewhere.{place-form, place-nothing, place-refused, promoted-some}
+use Rattle.squares.proofs.Laws.{promoted-told}
+use Rattle.position.proofs.Elsewhere.{place-form, place-nothing, place-refused}
 use Rattle.position.proofs.sound.promoted_index.Statement.{statement}
 use Rattle.position.proofs.sound.promoted_index.Tie as tie
 
 sub-result : tie.Need-sub-result
-sub-result c = promoted-some (c .before .before .before .before .args .j) (c .before .before .before .before .pre) _ (ap formGiven (sym (c .before .promoted .given .1)) ∙ c .before .before .before .promote .ensures)
+sub-result c = promoted-told (c .before .before .before .before .args .j + 1) _ (ap formGiven (sym (c .before .promoted .given .1)) ∙ c .before .before .before .promote .ensures) .1
 
 returns : tie.Need-returns
 returns c = place-form (c .before .before .before .before .args .j) (c .before .before .before .before .pre) _ (ap formGiven (sym (c .before .promoted .given .1)) ∙ c .before .before .before .promote .ensures)
