@@ -1,6 +1,7 @@
 /* fuzz SECONDS SEED: random bytes as positions, numbers and buffers through the exported calls. Position and buffer end where a page
  * begins that may not be touched, and begin behind bytes that must stay; so a byte read or written past them stops the program. Fails
- * where a refusal or a query changes a byte, where an answer has no such number, or where an accepted change gives what is not sound.
+ * where a refusal or a query changes a byte, where an answer has no such number, where an accepted change gives what is not sound, or
+ * where the step does not leave what an accepted move leaves.
  * No header of a C library is used: a compiler for another machine than this has none. */
 #include "pulfredan.h"
 
@@ -133,6 +134,19 @@ static void try_change(int call)
         fail("an accepted change gave what is not sound", QUERIES + call);
 }
 
+static void try_step(void)
+{
+    uint8_t x = any_number(), y = any_number();
+    bool drop = next_random() % 2, promote = next_random() % 2;
+    pulfredan_position moved = *p;
+    pulfredan_told made = drop ? pulfredan_make_drop(&moved, x, y) : pulfredan_make_normal(&moved, x, y, promote);
+    pulfredan_told told = drop ? pulfredan_step_drop(p, x, y) : pulfredan_step_normal(p, x, y, promote);
+    if (told.number || told.square)
+        fail("a step was refused", 100);
+    if (made.number == 0 && memcmp(&moved, p, sizeof moved))
+        fail("a step and an accepted move leave different positions", 100);
+}
+
 static void try_text(void)
 {
     uint8_t before[BEFORE + ROOM];
@@ -165,8 +179,11 @@ static void try_sets(void)
     for (size_t i = 0; i < sizeof all / sizeof *all; i++)
         if (all[i].lo >> 63 || all[i].hi >> 18)
             fail("a set has stray bits", 200 + (int)i);
-    if (pulfredan_set_count(a) > 81 || pulfredan_set_contains(a, any_number()).number > 2)
+    if (pulfredan_set_count(a) > 81 || pulfredan_set_contains(a, any_number()).number > 2 || pulfredan_set_get_file(a, any_number()).pattern > 511)
         fail("a set's answer", 220);
+    if (pulfredan_square_new(any_number(), any_number()).value > 81 || pulfredan_square_file(any_number()).value > 9 ||
+        pulfredan_square_rank(any_number()).value > 9)
+        fail("a square's answer", 221);
 }
 
 int main(int argc, char **argv)
@@ -183,10 +200,11 @@ int main(int argc, char **argv)
         for (int i = 0; i < 1000; i++, calls++) {
             next_position();
             accepted += pulfredan_soundness(p).number == 0;
-            switch (next_random() % 4) {
+            switch (next_random() % 5) {
             case 0: try_query(next_random() % QUERIES); break;
             case 1: try_text(); break;
             case 2: try_sets(); break;
+            case 3: try_step(); break;
             default: try_change(next_random() % CHANGES); break;
             }
         }
