@@ -1,6 +1,7 @@
 -- The answers as C sees them, each from the answer of the call below: the same number, and the same values.
 use Prim.Native.Nat.{ℕ}
 use Rattle.squares.specs.Answers.{NumberValue, SetValue, TruthValue, PopValue}
+use Rattle.position.specs.Machine.{noMove}
 use Rattle.position.specs.Moves.{numbersOf}
 use Rattle.position.specs.Steps.{stepped}
 use Rattle.position.specs.declared.mv.MoveNumbers.{MoveNumbers}
@@ -25,15 +26,20 @@ use Rattle.firmware.specs.declared.answers.CPop.{CPop}
 use Rattle.firmware.specs.declared.answers.CLast.{CLast}
 
 -- ---- of calls on sets
+
+-- a number or a square
 abbrev pub numberShown : NumberValue → CNumber
 numberShown v = record { number = v .number; value = v .value }
 
+-- a set
 abbrev pub setShown : SetValue → CSet
 setShown v = record { number = v .number; set = v .set }
 
+-- a yes or no
 abbrev pub truthShown : TruthValue → CTruth
 truthShown v = record { number = v .number; truth = v .truth }
 
+-- a file's pattern
 abbrev pub patternShown : NumberValue → CPattern
 patternShown v = record { number = v .number; pattern = v .value }
 
@@ -41,26 +47,32 @@ patternShown v = record { number = v .number; pattern = v .value }
 abbrev pub popShown : PopValue → CPop
 popShown v = record { square = v .square; set = v .set }
 
--- ---- of calls on positions: a piece is a cell "other than 0", so that 0 says "nothing"; and so for the square of a king
+-- ---- of calls on positions
+
+-- a piece is a cell "other than 0", so that 0 says "nothing"
 abbrev pub pieceNumber : Stands → ℕ
 pieceNumber Stand.Nothing = 0
 pieceNumber (Stand.Piece c) = c
 
+-- the answer of piece_at
 abbrev pub pieceShown : PieceAnswer → NumberAnswer
 pieceShown a = record { told = a .told; value = pieceNumber (a .stands) }
 
+-- a square is 1 to 81, so that 0 says "nothing"
 abbrev pub kingNumber : KingSquare → ℕ
 kingNumber King.Nothing = 0
 kingNumber (King.At n) = n
 
+-- the answer of king_position
 abbrev pub kingShown : KingAnswer → NumberAnswer
 kingShown a = record { told = a .told; value = kingNumber (a .king) }
 
 -- a last move as a position stores it
 abbrev pub lastNumbers : LastMove → MoveNumbers
-lastNumbers Last.Nothing = record { tag = 0; a = 0; b = 0; promote = 0 }
+lastNumbers Last.Nothing = noMove
 lastNumbers (Last.Was m) = numbersOf m
 
+-- the answer of last_move
 abbrev pub lastShown : LastAnswer → CLast
 lastShown a = record { told = a .told; last = lastNumbers (a .last) }
 

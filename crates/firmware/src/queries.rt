@@ -2,7 +2,7 @@
 ghost use mathlib.Core.Path.{_≡_};
 ghost use Rattle.position.specs.Machine.{emptyPosition, startPosition};
 ghost use Rattle.position.specs.Moves.{numbersOf};
-ghost use Rattle.position.specs.Answers.{soundnessTold, pieceAnswer, colourSetAnswer, kindSetAnswer, pieceSetAnswer, occupiedAnswer, vacantAnswer};
+ghost use Rattle.position.specs.Answers.{soundnessTold, pieceAtAnswer, colourSetAnswer, kindSetAnswer, pieceSetAnswer, occupiedAnswer, vacantAnswer};
 ghost use Rattle.position.specs.Answers.{sideAnswer, plyAnswer, handAnswer, kingAnswer, lastAnswer};
 ghost use Rattle.firmware.specs.Shown.{pieceNumber, pieceShown, kingNumber, kingShown, lastNumbers, lastShown};
 use crate::answers::CLast;
@@ -34,7 +34,7 @@ pub extern "C" fn pulfredan_empty() -> Position
 // ---- answers that hold an enum, as numbers
 
 fn piece_at(p: Position, square: u8) -> NumberAnswer
-    ensures { λ r. ⌜ r ≡ pieceShown (pieceAnswer p square) ⌝ }
+    ensures { λ r. ⌜ r ≡ pieceShown (pieceAtAnswer p square) ⌝ }
 {
     let found = p.piece_at(square);
     let told = found.told;
@@ -128,7 +128,7 @@ pub extern "C" fn pulfredan_soundness(p: &Position) -> Told
 
 #[no_mangle]
 pub extern "C" fn pulfredan_piece_at(p: &Position, square: u8) -> NumberAnswer
-    ensures { λ r. ⌜ r ≡ pieceShown (pieceAnswer (now (p .entry)) square) ⌝ }
+    ensures { λ r. ⌜ r ≡ pieceShown (pieceAtAnswer (now (p .entry)) square) ⌝ }
 {
     piece_at(*p, square)
 }

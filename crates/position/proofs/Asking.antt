@@ -17,7 +17,7 @@ use Rattle.squares.proofs.Laws.{both, le-or-lt, eqb-same, board-range, setOf-co
 use Rattle.position.specs.Machine.{cellAt, kingSquare}
 use Rattle.position.specs.Sound.{anyBelow, strayIn, kingWrong, firstFault, faultElsewhere, sound}
 use Rattle.position.specs.Inner.{Tidy}
-use Rattle.position.specs.Answers.{firstFact, toldBy, queryFacts, toldQuery, answered, stood, pieceAnswer, setAnswer, occupiedAnswer, sideAnswer, plyAnswer, handAt, handKindOk, handAnswer, kingShown, kingAnswer, lastMove, lastAnswer}
+use Rattle.position.specs.Answers.{firstFact, toldBy, queryFacts, toldQuery, answered, stood, pieceAtAnswer, setAnswer, occupiedAnswer, sideAnswer, plyAnswer, handAt, goodHandKind, handAnswer, kingAt, kingAnswer, lastMove, lastAnswer}
 use Rattle.position.specs.declared.position.Position.{Position}
 use Rattle.position.specs.declared.answers.Told.{Told}
 use Rattle.position.specs.declared.answers.Stands.{Stands}
@@ -178,15 +178,15 @@ own-king p c s g = go (ℕ-discrete c 1)
 -- ---- the answers, refused or with their value
 module _ (p : Position) (t : Told) where
   module _ (n : ℕ) (e : t ≡ toldQuery (not (onBoard 9 n)) p) where
-    pub piece-refused : (t .number ≡ 0 → ⊥) → record { told = t; stands = Stand.Nothing } ≡ pieceAnswer p n
-    unfolding pieceAnswer
+    pub piece-refused : (t .number ≡ 0 → ⊥) → record { told = t; stands = Stand.Nothing } ≡ pieceAtAnswer p n
+    unfolding pieceAtAnswer
     piece-refused h = rw (refused p _ t e h, ← e)
 
-    pub piece-done : (v : Stands) → t .number ≡ 0 → v ≡ stood (cellAt (p .board) n) → record { told = t; stands = v } ≡ pieceAnswer p n
-    unfolding pieceAnswer
+    pub piece-done : (v : Stands) → t .number ≡ 0 → v ≡ stood (cellAt (p .board) n) → record { told = t; stands = v } ≡ pieceAtAnswer p n
+    unfolding pieceAtAnswer
     piece-done v h q = rw (done p _ t e h, ← e, q)
 
-  module _ (c k : ℕ) (e : t ≡ toldQuery (not (goodColour c && handKindOk k)) p) where
+  module _ (c k : ℕ) (e : t ≡ toldQuery (not (goodColour c && goodHandKind k)) p) where
     pub hand-refused : (t .number ≡ 0 → ⊥) → record { told = t; value = 0 } ≡ handAnswer p c k
     unfolding handAnswer
     hand-refused h = rw (refused p _ t e h, ← e)
@@ -196,7 +196,7 @@ module _ (p : Position) (t : Told) where
     hand-done v h q = rw (done p _ t e h, ← e, q)
 
     pub hand-numbers : t .number ≡ 0 → (1 ≤ c) × (c ≤ 2) × (1 ≤ k) × (k ≤ 7)
-    unfolding handKindOk
+    unfolding goodHandKind
     hand-numbers h =
         let b = both (goodColour c) (leb 1 k && leb k 7) (not-false _ (done-good p _ t e h)) in
         let r = colour-range c (b .0) in
@@ -208,7 +208,7 @@ module _ (p : Position) (t : Told) where
     unfolding kingAnswer
     king-refused h = rw (refused p _ t e h, ← e)
 
-    pub king-done : (v : KingSquare) (q : ℕ) → t .number ≡ 0 → v ≡ kingShown q → q ≡ cond (eqb c 1) (p .bking) (p .wking) → record { told = t; king = v } ≡ kingAnswer p c
+    pub king-done : (v : KingSquare) (q : ℕ) → t .number ≡ 0 → v ≡ kingAt q → q ≡ cond (eqb c 1) (p .bking) (p .wking) → record { told = t; king = v } ≡ kingAnswer p c
     unfolding kingAnswer
     king-done v q h shown is =
         rw (done p _ t e h, ← e, shown, is ∙ own-king p c (done-sound p _ t e h) (not-false _ (done-good p _ t e h)))

@@ -17,8 +17,8 @@ use Rattle.squares.proofs.Laws.{both, decided, board-range, board-on, has-setOf
 use Rattle.position.specs.Machine.{Machine, machine, full, cellAt, kingSquare}
 use Rattle.position.specs.Sound.{sound, firstFault}
 use Rattle.position.specs.Answers.{firstFact, toldBy, queryFacts, toldQuery, soundnessTold}
-use Rattle.position.specs.Edits.{editFacts, edited, withCells, settled}
-use Rattle.position.specs.Inner.{AllGood, MarksOf, Tidy}
+use Rattle.position.specs.Edits.{editFacts, edited, withCells}
+use Rattle.position.specs.Inner.{AllGood, MarksOf, Tidy, settled}
 use Rattle.position.specs.declared.position.Position.{Position}
 use Rattle.position.specs.declared.sound.Marks.{Marks}
 use Rattle.position.specs.declared.mv.MoveNumbers.{MoveNumbers}

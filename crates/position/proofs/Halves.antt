@@ -16,8 +16,7 @@ use Rattle.position.specs.Machine.{machine, cellAt}
 use Rattle.position.specs.Sound.{sound}
 use Rattle.position.specs.Answers.{firstFact, stood}
 use Rattle.position.specs.Moves.{badMove, normalFacts, ruleFacts, held}
-use Rattle.position.specs.Steps.{Room, InHand}
-use Rattle.position.specs.Plans.{normalPlan, dropPlan, Playable}
+use Rattle.position.specs.Plans.{RoomFor, Holds, normalPlan, dropPlan, Playable}
 use Rattle.position.specs.Inner.{OnBoard}
 use Rattle.position.specs.declared.position.Position.{Position}
 use Rattle.position.specs.declared.mv.Move.the-variants.{Normal, Drop}
@@ -81,7 +80,7 @@ module _ (p : Position) (s : Sized p) (h : sound p ≡ true) where
           let x : (i - 7) + 7 ≡ i = omega arith in
           omega (arith, rw x at (sound-order p s h .counts (i - 7) (omega arith)), limit-small (i - 7) (omega arith))
 
-  pub sound-room : (t : ℕ) → Room (p .hands) (p .side) t
+  pub sound-room : (t : ℕ) → RoomFor (p .hands) (p .side) t
   sound-room t =
       record {
         side-low = sound-side .0;
@@ -101,7 +100,7 @@ module _ (p : Position) (s : Sized p) (h : sound p ≡ true) where
     unfolding machine dropPlan
     drop-fits piece to c hands k = record { at-from = k .goal; at-to = k .goal; side = λ z. sound-side .1; ply = λ z. early (k .early) }
 
-  pub drop-held : (piece to : ℕ) → CanDrop (machine p) piece to → InHand (p .hands) (p .side) piece
+  pub drop-held : (piece to : ℕ) → CanDrop (machine p) piece to → Holds (p .hands) (p .side) piece
   unfolding machine
   drop-held piece to k =
       record { side-low = sound-side .0; side-high = sound-side .1; kind-low = k .kind-low; kind-high = k .kind-high; some = k .some }

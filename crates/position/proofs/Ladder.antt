@@ -15,7 +15,7 @@ use Rattle.position.specs.Machine.{Machine, machine, full, cellAt}
 use Rattle.position.specs.Sound.{sound, firstFault}
 use Rattle.position.specs.Answers.{Fact, firstFact, toldBy, queryFacts, toldQuery, handAt}
 use Rattle.position.specs.Moves.{badMove, normalFacts, dropFacts, ruleFacts, moveFacts, next, movePlayed}
-use Rattle.position.specs.Steps.{Ready}
+use Rattle.position.specs.Plans.{Ready}
 use Rattle.position.specs.Inner.{OnBoard}
 use Rattle.position.specs.declared.position.Position.{Position}
 use Rattle.position.specs.declared.mv.Move.{Move}

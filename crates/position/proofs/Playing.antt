@@ -17,7 +17,7 @@ use Rattle.position.specs.Machine.{cellAt}
 use Rattle.position.specs.Moves.{arriving, numbersOf, movePlayed}
 use Rattle.position.specs.Steps.{toggled, setsAfter, carried, stepped}
 use Rattle.position.specs.Inner.{OnBoard}
-use Rattle.position.specs.Plans.{refusedBy, normalPlan, dropPlan, storedBy, turnedAt, playedBy, Playable, StepPlan, MovePlan}
+use Rattle.position.specs.Plans.{refusedBy, normalPlan, dropPlan, storedBy, toggledAt, playedBy, Playable, StepPlan, MovePlan}
 use Rattle.position.specs.declared.position.Position.{Position}
 use Rattle.position.specs.declared.plan.Plan.{Plan}
 use Rattle.position.specs.declared.answers.Answer.{Answer}
@@ -39,7 +39,7 @@ module _ (p : Position) (n : ℕ) (d : n ≡ 0 → ⊥) where
       }
 
   refused-plays : playedBy p (refusedBy n) ≡ p
-  unfolding refusedBy playedBy storedBy turnedAt toggled
+  unfolding refusedBy playedBy storedBy toggledAt toggled
   refused-plays = rw (ne-eqb n 0 d, empty-colour, black-kind 0 (omega arith))
 
 pub plan-keeps : (p : Position) (m : Move) (r : Plan) → r ≡ refusedBy 1 → p ≡ stepped p m → StepPlan p m r
@@ -82,12 +82,12 @@ module _ (p : Position) (size : length (p .board) ≡ 81) where
   pub normal-plays : (from to : ℕ) (promote : Bool) (hands : List ℕ) → OnBoard from → OnBoard to
       → playedBy p (normalPlan from to promote (cellAt (p .board) from) (cellAt (p .board) to) hands)
       ≡ carried p from to (arriving promote (cellAt (p .board) from)) hands (numbersOf (Normal from to promote))
-  unfolding normalPlan playedBy storedBy turnedAt carried setsAfter
+  unfolding normalPlan playedBy storedBy toggledAt carried setsAfter
   normal-plays from to promote hands f t = rw (taken-is from to f t)
 
   pub drop-plays : (piece to : ℕ) (hands : List ℕ) → OnBoard to
       → playedBy p (dropPlan piece to (cellAt (p .board) to) hands) ≡ carried p to to piece hands (numbersOf (Drop piece to))
-  unfolding dropPlan playedBy storedBy turnedAt carried setsAfter
+  unfolding dropPlan playedBy storedBy toggledAt carried setsAfter
   drop-plays piece to hands t = rw (cell-same (p .board) to 0 (t .low) (omega (arith, t .high)))
 
 -- ---- as the code turns a square: the colour set first, then the kind set
@@ -142,14 +142,14 @@ module _ (p : Position) (x n : ℕ) where
         players = q .players;
         kinds = set (q .kinds) (k - 1) r;
       }
-      ≡ turnedAt p x n
-  unfolding turnedAt
+      ≡ toggledAt p x n
+  unfolding toggledAt
   kind-turned q k one d r h size good e ek er =
       let b = piece-kind x good in
       rw (h, toggle-in (p .kinds) k one d r (omega arith) (omega arith) (rw h at er), ek, e)
 
-  pub kind-same : (q : Position) → Coloured q → length (p .kinds) ≡ 14 → goodPiece x ≡ false → q ≡ turnedAt p x n
-  unfolding turnedAt
+  pub kind-same : (q : Position) → Coloured q → length (p .kinds) ≡ 14 → goodPiece x ≡ false → q ≡ toggledAt p x n
+  unfolding toggledAt
   kind-same q h size bad = rw (h, ← kept)
     where
       kept : p .kinds ≡ toggled (p .kinds) (kindOf x) (singleS n)

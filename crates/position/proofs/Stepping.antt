@@ -14,9 +14,9 @@ use Rattle.position.specs.Machine.{machine, full}
 use Rattle.position.specs.Sound.{sound}
 use Rattle.position.specs.Answers.{firstFact, handAt}
 use Rattle.position.specs.Moves.{badMove, ruleFacts, next}
-use Rattle.position.specs.Steps.{carriedBy, roomFor, holds, handFits, stepped, Steppable, Room, InHand}
+use Rattle.position.specs.Steps.{carriedBy, roomFor, holds, handFits, stepped}
 use Rattle.position.specs.Inner.{OnBoard}
-use Rattle.position.specs.Plans.{Playable}
+use Rattle.position.specs.Plans.{Steppable, RoomFor, Holds, Playable}
 use Rattle.position.specs.declared.position.Position.{Position}
 use Rattle.position.specs.declared.plan.Plan.{Plan}
 use Rattle.position.specs.declared.mv.Move.{Move}
@@ -58,20 +58,20 @@ module _ (p : Position) (m : Move) (s : Steppable p m) where
         ply = λ z. lt-of-le-ne (omega arith) (eqb-false (p .ply) 65535 (s .ply));
       }
 
-pub room-fits : (hands : List ℕ) (side t : ℕ) → goodColour side ≡ true → roomFor side t hands ≡ true → Room hands side t
+pub room-fits : (hands : List ℕ) (side t : ℕ) → goodColour side ≡ true → roomFor side t hands ≡ true → RoomFor hands side t
 unfolding roomFor
 room-fits hands side t g h =
     let r = colour-range side g in
     record { side-low = r .0; side-high = r .1; few = λ d. ltb-true _ 255 (or-right (eqb (handKind (kindOf t)) 0) _ (ne-eqb _ 0 d) h) }
 
-pub holds-piece : (hands : List ℕ) (side piece : ℕ) → goodColour side ≡ true → 1 ≤ kindOf piece → holds side piece hands ≡ true → InHand hands side piece
+pub holds-piece : (hands : List ℕ) (side piece : ℕ) → goodColour side ≡ true → 1 ≤ kindOf piece → holds side piece hands ≡ true → Holds hands side piece
 unfolding holds
 holds-piece hands side piece g l h =
     let r = colour-range side g in
     let b = both (leb (kindOf piece) 7) _ h in
     record { side-low = r .0; side-high = r .1; kind-low = l; kind-high = leb-true _ 7 (b .0); some = ltb-true 0 _ (b .1) }
 
-in-hand-holds : (hands : List ℕ) (side piece : ℕ) → InHand hands side piece → holds side piece hands ≡ true
+in-hand-holds : (hands : List ℕ) (side piece : ℕ) → Holds hands side piece → holds side piece hands ≡ true
 unfolding holds
 in-hand-holds hands side piece i = rw (le-leb _ 7 (i .kind-high), lt-ltb 0 _ (i .some))
 

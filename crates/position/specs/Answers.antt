@@ -31,6 +31,10 @@ pub record Fact : Type 0 where
   pub number : ℕ
   pub fact : Bool
 
+-- the number n is given for this fact
+abbrev pub gives : ℕ → Bool → Fact
+gives n test = record { number = n; fact = test }
+
 -- "Each number is given exactly when its fact holds and no earlier one does"
 unfoldable pub firstFact : List Fact → ℕ
 firstFact [] = 0
@@ -42,8 +46,9 @@ toldBy p facts = record { number = firstFact facts; square = cond (eqb (firstFac
 
 -- "Order: 2, then 1": the facts of a query, whose numbers are bad or not
 unfoldable pub queryFacts : Bool → Position → List Fact
-queryFacts bad p = record { number = 2; fact = bad } ∷ record { number = 1; fact = not (sound p) } ∷ []
+queryFacts bad p = gives 2 bad ∷ gives 1 (not (sound p)) ∷ []
 
+-- what a query tells beside its value
 unfoldable pub toldQuery : Bool → Position → Told
 toldQuery bad p = toldBy p (queryFacts bad p)
 
@@ -51,39 +56,45 @@ toldQuery bad p = toldBy p (queryFacts bad p)
 unfoldable pub answered : Bool → Position → Bool
 answered bad p = eqb (firstFact (queryFacts bad p)) 0
 
--- "Reading a square: an empty cell answers that nothing stands there, else the piece"
+-- "an empty cell answers that nothing stands there, else the piece"
 unfoldable pub stood : ℕ → Stands
 stood c = cond (eqb c 0) Stand.Nothing (Stand.Piece c)
 
-unfoldable pub pieceAnswer : Position → ℕ → PieceAnswer
-pieceAnswer p n =
+-- piece_at: "Reading a square"
+unfoldable pub pieceAtAnswer : Position → ℕ → PieceAnswer
+pieceAtAnswer p n =
     let bad = not (onBoard 9 n) in
     record { told = toldQuery bad p; stands = cond (answered bad p) (stood (cellAt (p .board) n)) Stand.Nothing }
 
--- a set of squares by what stands there
+-- a set of squares by what stands there; the empty set where the call is refused
 unfoldable pub setAnswer : Bool → (ℕ → Bool) → Position → SetAnswer
 setAnswer bad test p = record { told = toldQuery bad p; set = cond (answered bad p) (setOf (λ n. test (cellAt (p .board) n))) emptyS }
 
--- "Queries: colour sets, kind sets, piece set, occupied, vacant"
+-- player_bitboard: "Queries: colour sets"
 unfoldable pub colourSetAnswer : Position → ℕ → SetAnswer
 colourSetAnswer p c = setAnswer (not (goodColour c)) (λ x. eqb (colourOf x) c) p
 
+-- piece_kind_bitboard: "kind sets"
 unfoldable pub kindSetAnswer : Position → ℕ → SetAnswer
 kindSetAnswer p k = setAnswer (not (goodKind k)) (λ x. eqb (kindOf x) k) p
 
+-- piece_bitboard: "piece set"
 unfoldable pub pieceSetAnswer : Position → ℕ → SetAnswer
 pieceSetAnswer p v = setAnswer (not (goodPiece v)) (λ x. eqb x v) p
 
+-- occupied_bitboard: "occupied"
 unfoldable pub occupiedAnswer : Position → SetAnswer
 occupiedAnswer p = setAnswer false (λ x. not (eqb x 0)) p
 
+-- vacant_bitboard: "vacant"
 unfoldable pub vacantAnswer : Position → SetAnswer
 vacantAnswer p = setAnswer false (λ x. eqb x 0) p
 
--- "side, ply, hand count, king square and last move (nothing where there is none)"
+-- side_to_move: "side"
 unfoldable pub sideAnswer : Position → NumberAnswer
 sideAnswer p = record { told = toldQuery false p; value = cond (answered false p) (p .side) 0 }
 
+-- ply: "ply"
 unfoldable pub plyAnswer : Position → PlyAnswer
 plyAnswer p = record { told = toldQuery false p; ply = cond (answered false p) (p .ply) 0 }
 
@@ -92,33 +103,35 @@ unfoldable pub handAt : ℕ → ℕ → ℕ
 handAt colour k = (colour - 1) * 7 + (k - 1)
 
 -- "Hands hold kinds 1..7 only"
-unfoldable pub handKindOk : ℕ → Bool
-handKindOk k = leb 1 k && leb k 7
+unfoldable pub goodHandKind : ℕ → Bool
+goodHandKind k = leb 1 k && leb k 7
 
+-- hand: "hand count"
 unfoldable pub handAnswer : Position → ℕ → ℕ → NumberAnswer
 handAnswer p c k =
-    let bad = not (goodColour c && handKindOk k) in
+    let bad = not (goodColour c && goodHandKind k) in
     record { told = toldQuery bad p; value = cond (answered bad p) (getD (p .hands) (handAt c k) 0) 0 }
 
--- a king square, or "nothing where there is none"
-unfoldable pub kingShown : ℕ → KingSquare
-kingShown q = cond (eqb q 0) King.Nothing (King.At q)
+-- a king's square, or "nothing where there is none"
+unfoldable pub kingAt : ℕ → KingSquare
+kingAt q = cond (eqb q 0) King.Nothing (King.At q)
 
--- the king of a colour: 8 or 24
+-- king_position: "king square"; the king of a colour is 8 or 24
 unfoldable pub kingAnswer : Position → ℕ → KingAnswer
 kingAnswer p c =
     let bad = not (goodColour c) in
-    record { told = toldQuery bad p; king = cond (answered bad p) (kingShown (kingSquare (p .board) (16 * c - 8))) King.Nothing }
+    record { told = toldQuery bad p; king = cond (answered bad p) (kingAt (kingSquare (p .board) (16 * c - 8))) King.Nothing }
 
--- what a stored last move says
+-- what a stored last move says, or "nothing where there is none"
 unfoldable pub lastMove : MoveNumbers → LastMove
 lastMove l =
     cond (eqb (l .tag) 1) (Last.Was (Normal (l .a) (l .b) (eqb (l .promote) 1)))
     (cond (eqb (l .tag) 2) (Last.Was (Drop (l .a) (l .b))) Last.Nothing)
 
+-- last_move: "last move"
 unfoldable pub lastAnswer : Position → LastAnswer
 lastAnswer p = record { told = toldQuery false p; last = cond (answered false p) (lastMove (p .last)) Last.Nothing }
 
--- "1: position not sound, with the square reported above"
+-- soundness: "1: position not sound, with the square reported above"
 unfoldable pub soundnessTold : Position → Told
 soundnessTold p = toldQuery false p

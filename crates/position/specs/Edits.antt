@@ -8,8 +8,7 @@ use Rattle.squares.specs.Board.{onBoard}
 use Rattle.squares.specs.Kinds.{goodColour, goodCell}
 use Rattle.position.specs.Machine.{Machine, machine, full}
 use Rattle.position.specs.Sound.{sound}
-use Rattle.position.specs.Answers.{Fact, firstFact, toldBy, handAt, handKindOk}
-use Rattle.position.specs.Moves.{gives}
+use Rattle.position.specs.Answers.{Fact, gives, firstFact, toldBy, handAt, goodHandKind}
 use Rattle.position.specs.declared.position.Position.{Position}
 use Rattle.position.specs.declared.answers.Answer.{Answer}
 
@@ -23,32 +22,34 @@ edited bad p m =
     let facts = editFacts bad p m in
     record { told = toldBy p facts; position = cond (eqb (firstFact facts) 0) (full m) p }
 
--- "Edits: one cell, one hand count, side, ply."; "Edits leave the last move as it was."
+-- the machine with other cells. "Edits leave the last move as it was."
 unfoldable pub withCells : Machine → List ℕ → Machine
 withCells m cells = record { cells = cells; hands = m .hands; side = m .side; last = m .last; ply = m .ply }
 
+-- with other hands
 unfoldable pub withHands : Machine → List ℕ → Machine
 withHands m hands = record { cells = m .cells; hands = hands; side = m .side; last = m .last; ply = m .ply }
 
+-- with another side to move
 unfoldable pub withSide : Machine → ℕ → Machine
 withSide m c = record { cells = m .cells; hands = m .hands; side = c; last = m .last; ply = m .ply }
 
+-- with another move number
 unfoldable pub withPly : Machine → ℕ → Machine
 withPly m n = record { cells = m .cells; hands = m .hands; side = m .side; last = m .last; ply = n }
 
--- "2: a number out of range: square, .. kind, colour, cell, .. ply 0, hand kind"; the cell 0 is good: it empties the square
+-- piece_set: "Edits: one cell". "2: a number out of range: square, .. cell"; the cell 0 is good: it empties the square
 unfoldable pub cellEdited : Position → ℕ → ℕ → Answer
 cellEdited p n c = edited (not (onBoard 9 n && goodCell c)) p (withCells (machine p) (set (p .board) (n - 1) c))
 
+-- hand_set: "one hand count"; 2 for "colour", "hand kind"
 unfoldable pub handEdited : Position → ℕ → ℕ → ℕ → Answer
-handEdited p c k count = edited (not (goodColour c && handKindOk k)) p (withHands (machine p) (set (p .hands) (handAt c k) count))
+handEdited p c k count = edited (not (goodColour c && goodHandKind k)) p (withHands (machine p) (set (p .hands) (handAt c k) count))
 
+-- side_to_move_set: "side"; 2 for "colour"
 unfoldable pub sideEdited : Position → ℕ → Answer
 sideEdited p c = edited (not (goodColour c)) p (withSide (machine p) c)
 
+-- ply_set: "ply"; 2 for "ply 0"
 unfoldable pub plyEdited : Position → ℕ → Answer
 plyEdited p n = edited (eqb n 0) p (withPly (machine p) n)
-
--- of a sound position p and good numbers: q is what the edit makes of p
-unfoldable pub settled : Position → Position → Answer
-settled p q = record { told = record { number = cond (sound q) 0 13; square = 0 }; position = cond (sound q) q p }

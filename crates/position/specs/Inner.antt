@@ -9,7 +9,9 @@ use Rattle.squares.specs.declared.bitboard.Bitboard.{Bitboard}
 use Rattle.squares.specs.Kinds.{kindRow, goodCell, goodPiece, colourOf, kindOf}
 use Rattle.squares.specs.Sets.{emptyS, orS, size, smallest}
 use Rattle.position.specs.Machine.{cellAt, family}
+use Rattle.position.specs.Sound.{sound}
 use Rattle.position.specs.declared.position.Position.{Position}
+use Rattle.position.specs.declared.answers.Answer.{Answer}
 use Rattle.position.specs.declared.sound.Marks.{Marks}
 
 -- a square's number
@@ -47,6 +49,7 @@ pub record Tidy (p : Position) : Type 0 where
   pub players : p .players ≡ family colourOf 2 (p .board)
   pub kinds : p .kinds ≡ family kindOf 14 (p .board)
 
+-- r tells whether it is
 pub record TidyTold (p : Position) (r : Bool) : Type 0 where
   pub yes : r ≡ true → Tidy p
   pub no : r ≡ false → Tidy p → ⊥
@@ -66,3 +69,7 @@ setsSize kinds j = size (orS (getD kinds j emptyS) (getD kinds (promotedAt j) em
 -- the same as overLimit, by the kind sets
 unfoldable pub overBySets : List Bitboard → List ℕ → ℕ → Bool
 overBySets kinds hands j = not (leb (setsSize kinds j + (getD hands j 0 + getD hands (j + 7) 0)) (kindRow (j + 1) .limit))
+
+-- the answer of an edit of a sound position p by good numbers: q is what the edit makes of p
+unfoldable pub settled : Position → Position → Answer
+settled p q = record { told = record { number = cond (sound q) 0 13; square = 0 }; position = cond (sound q) q p }

@@ -17,6 +17,7 @@ use Rattle.position.specs.declared.position.Position.{Position}
 unfoldable pub kingSquare : List ℕ → ℕ → ℕ
 kingSquare cells king = firstOf (λ n. eqb (cellAt cells n) king) 1 81
 
+-- "the plain machine over cells and hands"
 pub record Machine : Type 0 where
   pub cells : List ℕ
   pub hands : List ℕ
@@ -54,11 +55,11 @@ full m =
 abbrev pub noMove : MoveNumbers
 noMove = record { tag = 0; a = 0; b = 0; promote = 0 }
 
--- "Start and empty positions as in the source; the empty one has Black to move, ply 1"
+-- "the empty one has Black to move, ply 1"
 unfoldable pub emptyPosition : Position
 emptyPosition = full (record { cells = replicate 81 0; hands = replicate 14 0; side = 1; last = noMove; ply = 1 })
 
--- rank 1 to rank 9, each from file 9 to file 1
+-- the start as a board is seen: rank 1 to rank 9, each from file 9 to file 1
 unfoldable pub startRanks : List (List ℕ)
 startRanks =
     (18 ∷ 19 ∷ 20 ∷ 21 ∷ 24 ∷ 21 ∷ 20 ∷ 19 ∷ 18 ∷ [])
@@ -72,8 +73,10 @@ startRanks =
     ∷ (2 ∷ 3 ∷ 4 ∷ 5 ∷ 8 ∷ 5 ∷ 4 ∷ 3 ∷ 2 ∷ [])
     ∷ []
 
+-- the same by the squares' numbers
 unfoldable pub startCells : List ℕ
 startCells = tab (λ n. getD (getD startRanks (rankOf 9 n - 1) []) (9 - fileOf 9 n) 0) 1 81
 
+-- "Start and empty positions as in the source"
 unfoldable pub startPosition : Position
 startPosition = full (record { cells = startCells; hands = replicate 14 0; side = 1; last = noMove; ply = 1 })

@@ -8,16 +8,12 @@ use Rattle.squares.specs.Board.{onBoard}
 use Rattle.squares.specs.Kinds.{goodPiece, handKind, otherColour, colourOf, kindOf, promotedPiece}
 use Rattle.position.specs.Machine.{Machine, machine, full, cellAt}
 use Rattle.position.specs.Sound.{sound}
-use Rattle.position.specs.Answers.{Fact, firstFact, toldBy, handAt}
+use Rattle.position.specs.Answers.{Fact, gives, firstFact, toldBy, handAt}
 use Rattle.position.specs.declared.position.Position.{Position}
 use Rattle.position.specs.declared.mv.Move.{Move}
 use Rattle.position.specs.declared.mv.Move.the-variants.{Normal, Drop}
 use Rattle.position.specs.declared.mv.MoveNumbers.{MoveNumbers}
 use Rattle.position.specs.declared.answers.Answer.{Answer}
-
--- an answer number, and the fact for which it is given
-abbrev pub gives : ℕ → Bool → Fact
-gives n test = record { number = n; fact = test }
 
 -- "2: a number out of range"; "where a call asks for a piece, 0 gives number 2"
 unfoldable pub badMove : Move → Bool
@@ -45,6 +41,7 @@ dropFacts piece t count side ply =
     ∷ gives 11 (eqb ply 65535)
     ∷ []
 
+-- the facts of a move on the plain machine
 unfoldable pub ruleFacts : Machine → Move → List Fact
 ruleFacts m (Normal from to promote) = normalFacts (cellAt (m .cells) from) (cellAt (m .cells) to) promote (m .side) (m .ply)
 ruleFacts m (Drop piece to) = dropFacts piece (cellAt (m .cells) to) (getD (m .hands) (handAt (m .side) (kindOf piece)) 0) (m .side) (m .ply)
@@ -96,6 +93,7 @@ dropped m piece to =
       ply = m .ply + 1;
     }
 
+-- the plain machine after a move
 unfoldable pub next : Machine → Move → Machine
 next m (Normal from to promote) = moved m from to promote
 next m (Drop piece to) = dropped m piece to

@@ -1,20 +1,47 @@
 -- A move planned in numbers, and what the functions of a move promise one another. No public promise cites this file.
 use Prim.Native.Nat.{ℕ, _+_, _-_, _≤_, _<_}
 use mathlib.Core.Path.{_≡_}
-use mathlib.Core.Bool.{Bool, cond}
+use mathlib.Core.Bool.{Bool, true, false, cond}
 use mathlib.Core.List.{List}
-use lib.ListN.{set, replicate}
+use lib.ListN.{getD, set, replicate}
 use lib.Dec.{eqb}
-use Rattle.squares.specs.Kinds.{otherColour, colourOf, kindOf}
+use Rattle.squares.specs.Kinds.{goodColour, handKind, otherColour, colourOf, kindOf}
 use Rattle.squares.specs.Sets.{singleS}
 use Rattle.position.specs.Machine.{noMove}
-use Rattle.position.specs.Moves.{arriving, numbersOf, movePlayed}
+use Rattle.position.specs.Sound.{sound}
+use Rattle.position.specs.Answers.{handAt}
+use Rattle.position.specs.Moves.{badMove, arriving, numbersOf, movePlayed}
 use Rattle.position.specs.Steps.{toggled, kingAfter, stepped}
 use Rattle.position.specs.Inner.{OnBoard}
 use Rattle.position.specs.declared.position.Position.{Position}
 use Rattle.position.specs.declared.plan.Plan.{Plan}
 use Rattle.position.specs.declared.mv.Move.{Move}
 use Rattle.position.specs.declared.mv.Move.the-variants.{Normal, Drop}
+
+-- what the halves of make_move ask: neither 2 nor 1 refuses
+pub record Ready (p : Position) (m : Move) : Type 0 where
+  pub good : badMove m ≡ false
+  pub whole : sound p ≡ true
+
+-- what the halves of the step ask
+pub record Steppable (p : Position) (m : Move) : Type 0 where
+  pub good : badMove m ≡ false
+  pub side : goodColour (p .side) ≡ true
+  pub ply : eqb (p .ply) 65535 ≡ false
+
+-- what putting the piece of a cell t into a hand asks
+pub record RoomFor (hands : List ℕ) (side t : ℕ) : Type 0 where
+  pub side-low : 1 ≤ side
+  pub side-high : side ≤ 2
+  pub few : (handKind (kindOf t) ≡ 0 → ⊥) → getD hands (handAt side (handKind (kindOf t))) 0 < 255
+
+-- what taking a piece out of a hand asks
+pub record Holds (hands : List ℕ) (side piece : ℕ) : Type 0 where
+  pub side-low : 1 ≤ side
+  pub side-high : side ≤ 2
+  pub kind-low : 1 ≤ kindOf piece
+  pub kind-high : kindOf piece ≤ 7
+  pub some : 1 ≤ getD hands (handAt side (kindOf piece)) 0
 
 -- nothing is done, for the number n
 unfoldable pub refusedBy : ℕ → Plan
@@ -57,8 +84,8 @@ storedBy p plan =
     p
 
 -- the square n leaves the sets of the cell x, or joins them
-unfoldable pub turnedAt : Position → ℕ → ℕ → Position
-turnedAt p x n =
+unfoldable pub toggledAt : Position → ℕ → ℕ → Position
+toggledAt p x n =
     record {
       board = p .board;
       hands = p .hands;
@@ -74,7 +101,7 @@ turnedAt p x n =
 -- the plan carried out
 unfoldable pub playedBy : Position → Plan → Position
 playedBy p plan =
-    turnedAt (turnedAt (turnedAt (storedBy p plan) (plan .left) (plan .from)) (plan .taken) (plan .to)) (plan .piece) (plan .to)
+    toggledAt (toggledAt (toggledAt (storedBy p plan) (plan .left) (plan .from)) (plan .taken) (plan .to)) (plan .piece) (plan .to)
 
 -- what carrying a plan out asks
 pub record Playable (p : Position) (plan : Plan) : Type 0 where

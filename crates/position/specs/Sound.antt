@@ -63,7 +63,7 @@ goodLast l =
     || ((eqb (l .tag) 1 && (onBoard 9 (l .a) && (onBoard 9 (l .b) && leb (l .promote) 1)))
     || (eqb (l .tag) 2 && (goodPiece (l .a) && (onBoard 9 (l .b) && eqb (l .promote) 0))))
 
--- a fault that is no cell's
+-- a fault that is no cell's: stray bits, king squares, counts, "The side to move is 1 or 2. Move number is 1..65535.", last move
 unfoldable pub faultElsewhere : Position → Bool
 faultElsewhere p =
     anyBelow (strayIn (p .players)) 2
@@ -72,5 +72,6 @@ faultElsewhere p =
     || (kingWrong (p .board) 24 (p .wking)
     || (anyBelow (overLimit p) 7 || (not (goodColour (p .side)) || (eqb (p .ply) 0 || not (goodLast (p .last))))))))
 
+-- "A sound position"
 unfoldable pub sound : Position → Bool
 sound p = eqb (firstFault p) 0 && not (faultElsewhere p)

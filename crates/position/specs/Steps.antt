@@ -1,7 +1,6 @@
 -- A move carried out on a position square by square: the sets and the king squares follow the two cells that change.
-use Prim.Native.Nat.{ℕ, _+_, _-_, _≤_, _<_}
-use mathlib.Core.Path.{_≡_}
-use mathlib.Core.Bool.{Bool, true, false, not, _&&_, _||_, cond}
+use Prim.Native.Nat.{ℕ, _+_, _-_}
+use mathlib.Core.Bool.{Bool, not, _&&_, _||_, cond}
 use mathlib.Core.List.{List}
 use lib.ListN.{getD, set}
 use lib.Dec.{eqb, leb, ltb}
@@ -9,7 +8,6 @@ use Rattle.squares.specs.declared.bitboard.Bitboard.{Bitboard}
 use Rattle.squares.specs.Kinds.{goodColour, otherColour, colourOf, kindOf, handKind}
 use Rattle.squares.specs.Sets.{emptyS, singleS, xorS}
 use Rattle.position.specs.Machine.{cellAt}
-use Rattle.position.specs.Sound.{sound}
 use Rattle.position.specs.Answers.{handAt}
 use Rattle.position.specs.Moves.{badMove, arriving, held, spent, numbersOf}
 use Rattle.position.specs.declared.position.Position.{Position}
@@ -53,13 +51,15 @@ carriedBy p (Normal from to promote) =
     carried p from to (arriving promote (cellAt (p .board) from)) (held (p .side) (cellAt (p .board) to) (p .hands)) (numbersOf (Normal from to promote))
 carriedBy p (Drop piece to) = carried p to to piece (spent (p .side) piece (p .hands)) (numbersOf (Drop piece to))
 
--- the hand has room for what is taken, or holds what is dropped
+-- the hand has room for what is taken
 unfoldable pub roomFor : ℕ → ℕ → List ℕ → Bool
 roomFor side t hands = let k = handKind (kindOf t) in eqb k 0 || ltb (getD hands (handAt side k) 0) 255
 
+-- the hand holds what is dropped
 unfoldable pub holds : ℕ → ℕ → List ℕ → Bool
 holds side piece hands = leb (kindOf piece) 7 && ltb 0 (getD hands (handAt side (kindOf piece)) 0)
 
+-- the hand can do what the move asks of it
 unfoldable pub handFits : Position → Move → Bool
 handFits p (Normal from to promote) = roomFor (p .side) (cellAt (p .board) to) (p .hands)
 handFits p (Drop piece to) = holds (p .side) piece (p .hands)
@@ -68,27 +68,3 @@ handFits p (Drop piece to) = holds (p .side) piece (p .hands)
 -- position as given
 unfoldable pub stepped : Position → Move → Position
 stepped p m = cond (badMove m || (not (goodColour (p .side)) || (eqb (p .ply) 65535 || not (handFits p m)))) p (carriedBy p m)
-
--- what the halves of make_move ask: neither 2 nor 1 refuses
-pub record Ready (p : Position) (m : Move) : Type 0 where
-  pub good : badMove m ≡ false
-  pub whole : sound p ≡ true
-
--- what putting the piece of a cell t into a hand asks, and taking a piece out
-pub record Room (hands : List ℕ) (side t : ℕ) : Type 0 where
-  pub side-low : 1 ≤ side
-  pub side-high : side ≤ 2
-  pub few : (handKind (kindOf t) ≡ 0 → ⊥) → getD hands (handAt side (handKind (kindOf t))) 0 < 255
-
-pub record InHand (hands : List ℕ) (side piece : ℕ) : Type 0 where
-  pub side-low : 1 ≤ side
-  pub side-high : side ≤ 2
-  pub kind-low : 1 ≤ kindOf piece
-  pub kind-high : kindOf piece ≤ 7
-  pub some : 1 ≤ getD hands (handAt side (kindOf piece)) 0
-
--- what the halves of the step ask
-pub record Steppable (p : Position) (m : Move) : Type 0 where
-  pub good : badMove m ≡ false
-  pub side : goodColour (p .side) ≡ true
-  pub ply : eqb (p .ply) 65535 ≡ false

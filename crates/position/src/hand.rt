@@ -5,7 +5,8 @@ ghost use lib.ListN.{getD};
 ghost use Rattle.squares.specs.Kinds.{kindOf, handKind};
 ghost use Rattle.position.specs.Answers.{handAt};
 ghost use Rattle.position.specs.Moves.{held, spent};
-ghost use Rattle.position.specs.Steps.{Room, InHand, roomFor, holds};
+ghost use Rattle.position.specs.Steps.{roomFor, holds};
+ghost use Rattle.position.specs.Plans.{RoomFor, Holds};
 use crate::cells::kind_of;
 use squares::FormAnswer;
 use squares::PieceKind;
@@ -40,7 +41,7 @@ pub(crate) fn in_hand(hands: [u8; 14], side: u8, piece: u8) -> u8
 
 // The hands with what stood on a cell, unpromoted, in that of `side`.
 pub(crate) fn hold(hands: [u8; 14], side: u8, t: u8) -> [u8; 14]
-    requires { ⌜ Room hands side t ⌝ }
+    requires { ⌜ RoomFor hands side t ⌝ }
     ensures { λ r. ⌜ r ≡ held side t hands ⌝ }
 {
     let k = hand_kind(t);
@@ -54,7 +55,7 @@ pub(crate) fn hold(hands: [u8; 14], side: u8, t: u8) -> [u8; 14]
 }
 
 pub(crate) fn spend(hands: [u8; 14], side: u8, piece: u8) -> [u8; 14]
-    requires { ⌜ InHand hands side piece ⌝ }
+    requires { ⌜ Holds hands side piece ⌝ }
     ensures { λ r. ⌜ r ≡ spent side piece hands ⌝ }
 {
     let k = kind_of(piece);

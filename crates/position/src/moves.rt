@@ -5,8 +5,7 @@ ghost use lib.Dec.{eqb, leb};
 ghost use Rattle.squares.specs.Kinds.{colourOf, kindOf, promotedPiece};
 ghost use Rattle.position.specs.Answers.{firstFact, toldQuery};
 ghost use Rattle.position.specs.Moves.{badMove, normalFacts, dropFacts, movePlayed};
-ghost use Rattle.position.specs.Steps.{Ready};
-ghost use Rattle.position.specs.Plans.{MovePlan};
+ghost use Rattle.position.specs.Plans.{Ready, MovePlan};
 use crate::answers::Answer;
 use crate::answers::Stands;
 use crate::answers::Told;
@@ -28,7 +27,7 @@ use crate::plan::refused;
 use crate::position::Position;
 use crate::sound::told;
 use crate::step::store;
-use crate::step::turn;
+use crate::step::toggle;
 
 // ---- the facts of a move, each by itself
 
@@ -187,9 +186,9 @@ impl Position {
         let plan = make_plan(self, m, first);
         // As in `step`: a function of these four calls would copy the position twice more.
         let q = store(self, plan);
-        let q = turn(q, plan.left, plan.from);
-        let q = turn(q, plan.taken, plan.to);
-        let q = turn(q, plan.piece, plan.to);
+        let q = toggle(q, plan.left, plan.from);
+        let q = toggle(q, plan.taken, plan.to);
+        let q = toggle(q, plan.piece, plan.to);
         let told = Told {
             number: plan.number,
             square: first.square,

@@ -2,8 +2,8 @@
 ghost use mathlib.Core.Path.{_≡_};
 ghost use mathlib.Core.Bool.{_&&_, cond};
 ghost use lib.Dec.{eqb};
-ghost use Rattle.position.specs.Answers.{pieceAnswer, colourSetAnswer, kindSetAnswer, pieceSetAnswer, occupiedAnswer, vacantAnswer};
-ghost use Rattle.position.specs.Answers.{sideAnswer, plyAnswer, handKindOk, handAnswer, kingShown, kingAnswer, lastMove, lastAnswer};
+ghost use Rattle.position.specs.Answers.{pieceAtAnswer, colourSetAnswer, kindSetAnswer, pieceSetAnswer, occupiedAnswer, vacantAnswer};
+ghost use Rattle.position.specs.Answers.{sideAnswer, plyAnswer, goodHandKind, handAnswer, kingAt, kingAnswer, lastMove, lastAnswer};
 ghost use Rattle.squares.specs.Kinds.{goodColour, goodKind};
 use crate::answers::KingAnswer;
 use crate::answers::KingSquare;
@@ -36,7 +36,7 @@ fn is_kind(kind: u8) -> bool
 }
 
 pub(crate) fn is_hand(color: u8, kind: u8) -> bool
-    ensures { λ r. ⌜ r ≡ goodColour color && handKindOk kind ⌝ }
+    ensures { λ r. ⌜ r ≡ goodColour color && goodHandKind kind ⌝ }
 {
     if is_color(color) {
         if 1 <= kind { kind <= 7 } else { false }
@@ -52,7 +52,7 @@ fn of_color(color: u8, black: u8, white: u8) -> u8
 }
 
 fn king_at(q: u8) -> KingSquare
-    ensures { λ r. ⌜ r ≡ kingShown q ⌝ }
+    ensures { λ r. ⌜ r ≡ kingAt q ⌝ }
 {
     if q == 0 {
         KingSquare::Nothing
@@ -84,7 +84,7 @@ fn last_of(last: MoveNumbers) -> LastMove
 
 impl Position {
     pub fn piece_at(self, square: u8) -> PieceAnswer
-        ensures { λ r. ⌜ r ≡ pieceAnswer self square ⌝ }
+        ensures { λ r. ⌜ r ≡ pieceAtAnswer self square ⌝ }
     {
         let told = told(!on_board(square), self);
         if told.number != 0 {

@@ -1,8 +1,8 @@
 // A move carried out on a position: two cells change, and the sets and the king squares follow.
 ghost use mathlib.Core.Path.{_≡_};
 ghost use Rattle.position.specs.Inner.{OnBoard};
-ghost use Rattle.position.specs.Steps.{kingAfter, Steppable, stepped};
-ghost use Rattle.position.specs.Plans.{storedBy, turnedAt, Playable, StepPlan};
+ghost use Rattle.position.specs.Steps.{kingAfter, stepped};
+ghost use Rattle.position.specs.Plans.{Steppable, storedBy, toggledAt, Playable, StepPlan};
 use crate::cells::cell;
 use crate::cells::color_of;
 use crate::cells::is_color;
@@ -58,9 +58,9 @@ pub(crate) fn store(p: Position, plan: Plan) -> Position
 }
 
 // The square `n` leaves the sets of the cell `x`, or joins them.
-pub(crate) fn turn(p: Position, x: u8, n: u8) -> Position
+pub(crate) fn toggle(p: Position, x: u8, n: u8) -> Position
     requires { ⌜ OnBoard n ⌝ }
-    ensures { λ r. ⌜ r ≡ turnedAt p x n ⌝ }
+    ensures { λ r. ⌜ r ≡ toggledAt p x n ⌝ }
 {
     let one = single(n);
     let mut q = p;
@@ -132,8 +132,8 @@ impl Position {
     {
         let plan = step_plan(self, m);
         let q = store(self, plan);
-        let q = turn(q, plan.left, plan.from);
-        let q = turn(q, plan.taken, plan.to);
-        turn(q, plan.piece, plan.to)
+        let q = toggle(q, plan.left, plan.from);
+        let q = toggle(q, plan.taken, plan.to);
+        toggle(q, plan.piece, plan.to)
     }
 }

@@ -18,7 +18,7 @@ use Rattle.position.specs.Machine.{machine, cellAt}
 use Rattle.position.specs.Sound.{sound, standing}
 use Rattle.position.specs.Answers.{handAt}
 use Rattle.position.proofs.Laws.{Sized, sound-order}
-use Rattle.sfen.specs.Text.{shogi, letterOf, kindText, pieceText, run, rankText, rankCells, ranks, laterText, ranksText, boardText, sideByte, number, countText, handText, orDash, handsText, text, positionText}
+use Rattle.sfen.specs.Text.{shogi, letterOf, kindText, pieceText, run, rankText, rankCells, ranks, laterText, ranksText, boardText, sideByte, numberText, countText, handText, orDash, handsText, text, positionText}
 use Rattle.sfen.specs.Inner.{place}
 use Rattle.sfen.proofs.Cases.{number-places, hands-both}
 use Rattle.sfen.proofs.Boards.{concat, plain}
@@ -131,7 +131,7 @@ place-low : (unit n : ℕ) → n < unit → length (place unit n) ≡ 0
 unfolding place
 place-low unit n h = rw (lt-ltb n unit h)
 
-length-number : (n : ℕ) → n < 100000 → length (number n)
+length-number : (n : ℕ) → n < 100000 → length (numberText n)
     ≡ length (place 10000 n) + (length (place 1000 n) + (length (place 100 n) + (length (place 10 n) + 1)))
 length-number n h =
     ap length (number-places n h)
@@ -143,13 +143,13 @@ length-number n h =
       length-append (place 10 n) ((48 + n % 10) ∷ []),
     )
 
-number-five : (n : ℕ) → n < 100000 → length (number n) ≤ 5
+number-five : (n : ℕ) → n < 100000 → length (numberText n) ≤ 5
 number-five n h = omega (arith, length-number n h, length-place 10000 n, length-place 1000 n, length-place 100 n, length-place 10 n)
 
-number-less : (n : ℕ) → 2 ≤ n → n < 100 → length (number n) + 1 ≤ n
+number-less : (n : ℕ) → 2 ≤ n → n < 100 → length (numberText n) + 1 ≤ n
 number-less n l h = go (decLt n 10)
   where
-    go : Dec (n < 10) → length (number n) + 1 ≤ n
+    go : Dec (n < 10) → length (numberText n) + 1 ≤ n
     go (yes p) =
         omega (arith, length-number n (omega arith), place-low 10000 n (omega arith), place-low 1000 n (omega arith), place-low 100 n (omega arith), place-low 10 n p)
     go (no p) =
@@ -159,7 +159,7 @@ length-count : (l n : ℕ) → n < 100 → length (countText l n) ≤ n
 unfolding countText
 length-count l zero h = lit≤ tt
 length-count l (suc zero) h = lit≤ tt
-length-count l (suc (suc n)) h = omega (arith, length-append (number (suc (suc n))) (l ∷ []), number-less (suc (suc n)) (omega arith) h)
+length-count l (suc (suc n)) h = omega (arith, length-append (numberText (suc (suc n))) (l ∷ []), number-less (suc (suc n)) (omega arith) h)
 
 abbrev heldIn : List ℕ → List ℕ → ℕ → ℕ
 heldIn [] hands colour = 0
@@ -206,13 +206,13 @@ length-hands hands hb hw =
     (length-dash (handText (shogi .held) hands 1 ++ handText (shogi .held) hands 2)))
 
 text-length : (cells : List ℕ) (side : ℕ) (hands : List ℕ) (ply : ℕ)
-    → length (text shogi cells side hands ply) ≡ length (boardText shogi cells) + (3 + (length (handsText shogi hands) + (1 + length (number ply))))
+    → length (text shogi cells side hands ply) ≡ length (boardText shogi cells) + (3 + (length (handsText shogi hands) + (1 + length (numberText ply))))
 unfolding text
 text-length cells side hands ply =
     omega (
       arith,
-      length-append (boardText shogi cells) (32 ∷ sideByte side ∷ 32 ∷ (handsText shogi hands ++ 32 ∷ number ply)),
-      length-append (handsText shogi hands) (32 ∷ number ply),
+      length-append (boardText shogi cells) (32 ∷ sideByte side ∷ 32 ∷ (handsText shogi hands ++ 32 ∷ numberText ply)),
+      length-append (handsText shogi hands) (32 ∷ numberText ply),
     )
 
 -- ---- the bound

@@ -15,7 +15,7 @@ use Rattle.squares.specs.Kinds.{kindRow}
 use Rattle.squares.proofs.Laws.{side-on, at-on, black-kind, white-kind, black-colour, white-colour}
 use Rattle.position.specs.Machine.{tab, cellAt}
 use Rattle.position.specs.Answers.{handAt}
-use Rattle.sfen.specs.Text.{shogi, letterOf, kindText, pieceText, run, rankText, down, rankCells, ranks, laterText, ranksText, boardText, sideByte, decimal, number, countText, handText, orDash, handsText, text}
+use Rattle.sfen.specs.Text.{shogi, letterOf, kindText, pieceText, run, rankText, down, rankCells, ranks, laterText, ranksText, boardText, sideByte, decimal, numberText, countText, handText, orDash, handsText, text}
 use Rattle.sfen.specs.Inner.{place}
 
 -- ---- letters
@@ -145,17 +145,17 @@ decimal-most (suc f) (suc g) n h k = go (decLt n 10) (decimal-most f g (n / 10))
     go (yes p) r = rw (lt-ltb n 10 p)
     go (no p) r = rw (le-ltb n 10 (omega arith)) (ap (λ (t : List ℕ). t ++ (48 + n % 10) ∷ []) (r (omega arith) (omega arith)))
 
-number-low : (n : ℕ) → n < 10 → number n ≡ (48 + n) ∷ []
-unfolding number decimal
+number-low : (n : ℕ) → n < 10 → numberText n ≡ (48 + n) ∷ []
+unfolding numberText decimal
 number-low n h = rw (lt-ltb n 10 h)
 
-number-high : (n : ℕ) → 10 ≤ n → number n ≡ number (n / 10) ++ (48 + n % 10) ∷ []
-unfolding number decimal
+number-high : (n : ℕ) → 10 ≤ n → numberText n ≡ numberText (n / 10) ++ (48 + n % 10) ∷ []
+unfolding numberText decimal
 number-high n h = rw (le-ltb n 10 h) (ap (λ (t : List ℕ). t ++ (48 + n % 10) ∷ []) (decimal-most n (suc (n / 10)) (n / 10) (omega arith) (omega arith)))
 
 -- the digits above the place of unit
 abbrev above : ℕ → ℕ → List ℕ
-above unit n = cond (ltb n unit) [] (number (n / unit))
+above unit n = cond (ltb n unit) [] (numberText (n / unit))
 
 pub place-none : (unit n : ℕ) → n < unit → place unit n ≡ []
 unfolding place
@@ -177,16 +177,16 @@ above-place u v n uv d small large = go (decLt n u) (decLt n v)
     go (no p) (no q) =
         rw (le-ltb n u (omega arith), le-ltb n v (omega arith), place-some u n (omega arith), ← d) (number-high (n / u) (large (omega arith)))
 
-above-all : (n : ℕ) → number n ≡ above 10 n ++ (48 + n % 10) ∷ []
+above-all : (n : ℕ) → numberText n ≡ above 10 n ++ (48 + n % 10) ∷ []
 above-all n = go (decLt n 10)
   where
-    go : Dec (n < 10) → number n ≡ above 10 n ++ (48 + n % 10) ∷ []
+    go : Dec (n < 10) → numberText n ≡ above 10 n ++ (48 + n % 10) ∷ []
     go (yes p) = let e : n % 10 ≡ n = omega arith in rw (lt-ltb n 10 p, e) (number-low n p)
     go (no p) = rw (le-ltb n 10 (omega arith)) (number-high n (omega arith))
 
 -- a number of at most five digits, place by place
 pub number-places : (n : ℕ) → n < 100000
-    → number n ≡ place 10000 n ++ (place 1000 n ++ (place 100 n ++ (place 10 n ++ (48 + n % 10) ∷ [])))
+    → numberText n ≡ place 10000 n ++ (place 1000 n ++ (place 100 n ++ (place 10 n ++ (48 + n % 10) ∷ [])))
 number-places n h =
     let e : above 100000 n ≡ [] = rw (lt-ltb n 100000 h) in
     rw (
@@ -211,7 +211,7 @@ count-one l zero h = absurd (omega arith)
 count-one l (suc zero) h = refl
 count-one l (suc (suc n)) h = absurd (omega arith)
 
-pub count-many : (l n : ℕ) → (n ≡ 0 → ⊥) → (n ≡ 1 → ⊥) → countText l n ≡ number n ++ l ∷ []
+pub count-many : (l n : ℕ) → (n ≡ 0 → ⊥) → (n ≡ 1 → ⊥) → countText l n ≡ numberText n ++ l ∷ []
 unfolding countText
 count-many l zero h k = absurd (h refl)
 count-many l (suc zero) h k = absurd (k refl)
@@ -257,6 +257,6 @@ hands-both hands = refl
 -- ---- the text, part by part
 pub text-parts : (cells : List ℕ) (side : ℕ) (hands : List ℕ) (ply : ℕ)
     → text shogi cells side hands ply
-    ≡ boardText shogi cells ++ ((32 ∷ []) ++ ((sideByte side ∷ []) ++ ((32 ∷ []) ++ (handsText shogi hands ++ ((32 ∷ []) ++ number ply)))))
+    ≡ boardText shogi cells ++ ((32 ∷ []) ++ ((sideByte side ∷ []) ++ ((32 ∷ []) ++ (handsText shogi hands ++ ((32 ∷ []) ++ numberText ply)))))
 unfolding text
 text-parts cells side hands ply = refl

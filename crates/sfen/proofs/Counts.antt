@@ -10,7 +10,7 @@ use lib.Dec.{T, eqb, leb, ltb, lit<}
 use lib.ListN.{length, getD, length-append, length-map}
 use borrow.Author.Tests.{lt-ltb, le-ltb, ltb-true, le-leb, lt-leb, eq-eqb}
 use Rattle.position.specs.Answers.{handAt}
-use Rattle.sfen.specs.Text.{Game, letterOf, decimal, number, countText, handText, orDash, handsText}
+use Rattle.sfen.specs.Text.{Game, letterOf, decimal, numberText, countText, handText, orDash, handsText}
 use Rattle.sfen.proofs.Cut.{Over, over-append}
 
 -- ---- the value of digits
@@ -33,11 +33,11 @@ value-decimal (suc most) n h = go (decLt n 10) (value-decimal most (n / 10))
     go (no p) r = rw (le-ltb n 10 (omega arith)) (value-append 0 (decimal most (n / 10)) _ ∙ rw (r (omega arith)) (omega arith))
 
 -- every number is read back from its text
-value-number : (n : ℕ) → value 0 (number n) ≡ n
-unfolding number
+value-number : (n : ℕ) → value 0 (numberText n) ≡ n
+unfolding numberText
 value-number n = value-decimal (suc n) n (omega arith)
 
-pub number-same : (m n : ℕ) → number m ≡ number n → m ≡ n
+pub number-same : (m n : ℕ) → numberText m ≡ numberText n → m ≡ n
 number-same m n e = sym (value-number m) ∙ ap (value 0) e ∙ value-number n
 
 -- ---- its bytes are digits
@@ -58,16 +58,16 @@ digits-decimal (suc most) n = go (ltb n 10) refl (digits-decimal most (n / 10))
     go true e i = let h : n < 10 = ltb-true n 10 e in ((omega arith, omega arith), tt)
     go false e i = digits-append (decimal most (n / 10)) _ i ((omega arith, omega arith), tt)
 
-digits-number : (n : ℕ) → Digits (number n)
-unfolding number
+digits-number : (n : ℕ) → Digits (numberText n)
+unfolding numberText
 digits-number n = digits-decimal (suc n) n
 
 digits-over : (bs : List ℕ) → Digits bs → Over 32 bs
 digits-over [] d = tt
 digits-over (b ∷ bs) d = (d .0 .0, digits-over bs (d .1))
 
-pub number-over : (n : ℕ) → Over 32 (number n)
-number-over n = digits-over (number n) (digits-number n)
+pub number-over : (n : ℕ) → Over 32 (numberText n)
+number-over n = digits-over (numberText n) (digits-number n)
 
 -- ---- counts beside letters
 abbrev countsText : List ℕ → List ℕ → List ℕ
@@ -97,7 +97,7 @@ unfolding countText
 tally-count l k zero rest h = rw (cond-same (eqb k l) 0) (sym (zero-add _))
 tally-count l k (suc zero) rest h = rw (lt-leb k 57 h)
 tally-count l k (suc (suc c)) rest h =
-    simp append-assoc (tally-digits l 0 (number (suc (suc c))) (k ∷ rest) (digits-number (suc (suc c))) ∙ rw (value-number (suc (suc c)), lt-leb k 57 h))
+    simp append-assoc (tally-digits l 0 (numberText (suc (suc c))) (k ∷ rest) (digits-number (suc (suc c))) ∙ rw (value-number (suc (suc c)), lt-leb k 57 h))
 
 -- the count of a letter in a list
 abbrev find : ℕ → List ℕ → List ℕ → ℕ
@@ -186,7 +186,7 @@ over-count : (l c : ℕ) → 57 < l → Over 32 (countText l c)
 unfolding countText
 over-count l zero h = tt
 over-count l (suc zero) h = (omega arith, tt)
-over-count l (suc (suc c)) h = over-append 32 (number (suc (suc c))) _ (number-over (suc (suc c))) (omega arith, tt)
+over-count l (suc (suc c)) h = over-append 32 (numberText (suc (suc c))) _ (number-over (suc (suc c))) (omega arith, tt)
 
 over-counts : (ls cs : List ℕ) → Over 57 ls → Over 32 (countsText ls cs)
 over-counts [] cs o = tt

@@ -8,7 +8,7 @@ use mathlib.Core.List.{List, [], _∷_, map}
 use lib.Dec.{eqb}
 use lib.ListN.{replicate, set}
 use Rattle.squares.specs.Bit.{odd, bit, digit, word}
-use Rattle.squares.specs.Board.{onSide, onBoard, squareAt, fileOf, rankOf, turnedTo, fileStep, rankStep, step}
+use Rattle.squares.specs.Board.{onSide, onBoard, squareAt, fileOf, rankOf, flipTo, fileStep, rankStep, step}
 use Rattle.squares.specs.Kinds.{kindRow, kinds, goodPiece, goodKind, handKind, otherColour, colourOf, kindOf, promotedPiece, pieceOf}
 use Rattle.squares.specs.Sets.{has, setOf, emptyS, notS, countOf, size, isEmpty, flipS, firstOf, smallest, withoutS, shiftS}
 use Rattle.squares.specs.Answers.{popAnswer}
@@ -22,7 +22,7 @@ use Rattle.position.specs.Answers.{firstFact, handAt}
 use Rattle.position.specs.Moves.{badMove, normalFacts, dropFacts, ruleFacts, arriving, held, moved, next, movePlayed}
 use Rattle.position.specs.Games.{plainNumber, plainNext, plainAnswer}
 use Rattle.position.proofs.Laws.{Sized, plays-plain, start-sound}
-use Rattle.sfen.specs.Text.{shogi, letterOf, kindText, pieceText, run, rankText, down, rankCells, ranks, laterText, ranksText, boardText, sideByte, decimal, number, countText, handText, orDash, handsText, text, positionText}
+use Rattle.sfen.specs.Text.{shogi, letterOf, kindText, pieceText, run, rankText, down, rankCells, ranks, laterText, ranksText, boardText, sideByte, decimal, numberText, countText, handText, orDash, handsText, text, positionText}
 
 -- the set of the listed squares
 among : List ℕ → ℕ → Bool
@@ -101,7 +101,7 @@ marked :
     × (positionText (full pawns) ≡ bytes "9/9/9/9/9/9/9/9/9 w R2P10p 7")
     -- M12
     × (map (λ v. movePlayed startPosition v .told .number) refusals ≡ 3 ∷ 4 ∷ 5 ∷ 6 ∷ 7 ∷ 9 ∷ 10 ∷ [])
-unfolding squares among setOf word digit has bit odd onSide onBoard squareAt fileOf rankOf turnedTo fileStep rankStep step flipS shiftS size countOf isEmpty emptyS notS popAnswer smallest firstOf withoutS bytes pawns positionText text shogi boardText ranks rankCells down tab ranksText laterText rankText run pieceText kindText letterOf kindRow kinds colourOf kindOf goodPiece goodKind handKind otherColour promotedPiece pieceOf sideByte decimal number countText handText orDash handsText handAt startPosition startCells startRanks full machine plainAnswer plainNumber plainNext firstFact badMove ruleFacts normalFacts dropFacts next moved arriving held
+unfolding squares among setOf word digit has bit odd onSide onBoard squareAt fileOf rankOf flipTo fileStep rankStep step flipS shiftS size countOf isEmpty emptyS notS popAnswer smallest firstOf withoutS bytes pawns positionText text shogi boardText ranks rankCells down tab ranksText laterText rankText run pieceText kindText letterOf kindRow kinds colourOf kindOf goodPiece goodKind handKind otherColour promotedPiece pieceOf sideByte decimal numberText countText handText orDash handsText handAt startPosition startCells startRanks full machine plainAnswer plainNumber plainNext firstFact badMove ruleFacts normalFacts dropFacts next moved arriving held
 marked = (
   refl,
   refl,

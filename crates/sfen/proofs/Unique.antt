@@ -10,7 +10,7 @@ use Rattle.squares.specs.Board.{onBoard}
 use Rattle.squares.specs.Kinds.{goodColour}
 use Rattle.squares.proofs.Laws.{le-or-lt, colour-range}
 use Rattle.position.specs.Machine.{cellAt}
-use Rattle.sfen.specs.Text.{Game, boardText, sideByte, number, handsText, text}
+use Rattle.sfen.specs.Text.{Game, boardText, sideByte, numberText, handsText, text}
 use Rattle.sfen.proofs.Cut.{Over, over-append, over-less, cut}
 use Rattle.sfen.proofs.Boards.{GoodCells, board-over, board-same}
 use Rattle.sfen.proofs.Counts.{Distinct, letters, counts, number-same, number-over, hands-over, hands-same}
@@ -61,7 +61,7 @@ module _ (game : Game) (r : Readable game) where
         lit< tt,
         (
           omega (arith, side-over s),
-          (lit< tt, over-append 31 (handsText game hs) _ (low (handsText game hs) (hands-over game (r .above) hs)) (lit< tt, low (number m) (number-over m))),
+          (lit< tt, over-append 31 (handsText game hs) _ (low (handsText game hs) (hands-over game (r .above) hs)) (lit< tt, low (numberText m) (number-over m))),
         ),
       )
     where
@@ -74,7 +74,7 @@ module _ (game : Game) (r : Readable game) where
   text-same cs ds s t hs ks m n g h gs gt e =
       let a = cut 32 (boardText game cs) (boardText game ds) _ _ (board-over game (r .small) cs g) (board-over game (r .small) ds h) e in
       let b : sideByte s ≡ sideByte t = cc (a .1) in
-      let q : handsText game hs ++ 32 ∷ number m ≡ handsText game ks ++ 32 ∷ number n = cc (a .1) in
+      let q : handsText game hs ++ 32 ∷ numberText m ≡ handsText game ks ++ 32 ∷ numberText n = cc (a .1) in
       let c = cut 32 (handsText game hs) (handsText game ks) _ _ (hands-over game (r .above) hs) (hands-over game (r .above) ks) q in
       record {
         cells = board-same game (r .small) cs ds g h (a .0);

@@ -28,6 +28,7 @@ letterOf colour k = cond (eqb colour 1) (kindRow k .letter) (kindRow k .letter +
 unfoldable pub kindText : ℕ → ℕ → List ℕ
 kindText colour k = let b = letterOf colour k in cond (eqb (kindRow k .unpromoted) k) (b ∷ []) (43 ∷ b ∷ [])
 
+-- the same of a cell that is not empty
 unfoldable pub pieceText : ℕ → List ℕ
 pieceText c = kindText (colourOf c) (kindOf c)
 
@@ -60,10 +61,12 @@ unfoldable pub laterText : List (List ℕ) → List ℕ
 laterText [] = []
 laterText (r ∷ rs) = 47 ∷ (rankText 0 r ++ laterText rs)
 
+-- the first rank, and the others behind it
 unfoldable pub ranksText : List (List ℕ) → List ℕ
 ranksText [] = []
 ranksText (r ∷ rs) = rankText 0 r ++ laterText rs
 
+-- the board's part of the text
 unfoldable pub boardText : Game → List ℕ → List ℕ
 boardText game cells = ranksText (ranks (game .width) cells)
 
@@ -77,20 +80,21 @@ decimal zero n = []
 decimal (suc most) n = cond (ltb n 10) ((48 + n) ∷ []) (decimal most (n / 10) ++ (48 + n % 10) ∷ [])
 
 -- "in decimal with no leading zero": n has no more than n + 1 digits
-unfoldable pub number : ℕ → List ℕ
-number n = decimal (suc n) n
+unfoldable pub numberText : ℕ → List ℕ
+numberText n = decimal (suc n) n
 
 -- "a count before the letter only above 1"
 unfoldable pub countText : ℕ → ℕ → List ℕ
 countText letter zero = []
 countText letter (suc zero) = letter ∷ []
-countText letter (suc (suc n)) = number (suc (suc n)) ++ letter ∷ []
+countText letter (suc (suc n)) = numberText (suc (suc n)) ++ letter ∷ []
 
 -- a colour's hand: its count of each of the kinds
 unfoldable pub handText : List ℕ → List ℕ → ℕ → List ℕ
 handText [] hands colour = []
 handText (k ∷ ks) hands colour = countText (letterOf colour k) (getD hands (handAt colour k) 0) ++ handText ks hands colour
 
+-- "`-` if both are empty"
 unfoldable pub orDash : List ℕ → List ℕ
 orDash [] = 45 ∷ []
 orDash (b ∷ bs) = b ∷ bs
@@ -102,7 +106,8 @@ handsText game hands = orDash (handText (game .held) hands 1 ++ handText (game .
 -- "Space, `b` or `w`, space, hands, space, ply"
 unfoldable pub text : Game → List ℕ → ℕ → List ℕ → ℕ → List ℕ
 text game cells side hands ply =
-    boardText game cells ++ (32 ∷ sideByte side ∷ 32 ∷ (handsText game hands ++ 32 ∷ number ply))
+    boardText game cells ++ (32 ∷ sideByte side ∷ 32 ∷ (handsText game hands ++ 32 ∷ numberText ply))
 
+-- the text of a position: "as 01 defines it"
 unfoldable pub positionText : Position → List ℕ
 positionText p = text shogi (p .board) (p .side) (p .hands) (p .ply)

@@ -6,8 +6,7 @@ use lib.ListN.{length, drop}
 use lib.Dec.{eqb, ltb}
 use Rattle.position.specs.declared.position.Position.{Position}
 use Rattle.position.specs.Sound.{sound}
-use Rattle.position.specs.Answers.{Fact, firstFact, toldBy}
-use Rattle.position.specs.Moves.{gives}
+use Rattle.position.specs.Answers.{Fact, gives, firstFact, toldBy}
 use Rattle.sfen.specs.Text.{positionText}
 use Rattle.sfen.specs.declared.write.TextAnswer.{TextAnswer}
 

@@ -2,7 +2,7 @@
 // place behind what it wrote.
 ghost use mathlib.Core.List.{[], _∷_};
 ghost use Prim.Native.Nat.{_≤_};
-ghost use Rattle.sfen.specs.Text.{number};
+ghost use Rattle.sfen.specs.Text.{numberText};
 ghost use Rattle.sfen.specs.Inner.{Room, Puts, place};
 
 // One byte.
@@ -27,8 +27,8 @@ fn put_place(line: &mut [u8; 168], at: usize, n: u16, unit: u16) -> usize
 
 // A number in decimal.
 pub(crate) fn put_number(line: &mut [u8; 168], at: usize, n: u16) -> usize
-    requires { ⌜ Room (now line) at (number n) ⌝ }
-    ensures { λ r. ⌜ Puts (now (line .entry)) at (now (line .exit)) r (number n) ⌝ }
+    requires { ⌜ Room (now line) at (numberText n) ⌝ }
+    ensures { λ r. ⌜ Puts (now (line .entry)) at (now (line .exit)) r (numberText n) ⌝ }
 {
     let at = put_place(line, at, n, 10000);
     let at = put_place(line, at, n, 1000);

@@ -8,7 +8,7 @@ use native.Mathlib.Decide.{ℕ-discrete}
 use lib.Dec.{eqb, ltb}
 use borrow.Author.Tests.{lt-ltb, le-ltb, eq-eqb, ne-eqb}
 use Rattle.squares.specs.Bit.{bit, word, reversed9}
-use Rattle.squares.specs.Board.{onBoard, fileOf, rankOf, turnedTo}
+use Rattle.squares.specs.Board.{onBoard, fileOf, rankOf, flipTo}
 use Rattle.squares.specs.Sets.{has, setOf, orS, emptyS, fileS, patternOf, flipS}
 use Rattle.squares.specs.declared.bitboard.Bitboard.{Bitboard}
 use Rattle.squares.proofs.Members.{setOf-cong, has-setOf, le-or-lt}
@@ -26,7 +26,7 @@ flipped-none s =
     (λ n o. let b = board-range 9 n o in rw (le-ltb 10 (1 + ((n - 1) / 9 + 1)) (omega arith)) (sym (and-false (has s (82 - n)))))
 
 pub flipped-all : (s : Bitboard) → flipped s 10 ≡ flipS s
-unfolding flipped flipS turnedTo fileOf
+unfolding flipped flipS flipTo fileOf
 flipped-all s =
     setOf-cong (λ n. has s (82 - n) && ltb 10 (10 + fileOf 9 n)) (λ n. has s (82 - n))
     (λ n o. let b = board-range 9 n o in rw (lt-ltb 10 (10 + ((n - 1) / 9 + 1)) (omega arith)) (and-true (has s (82 - n))))

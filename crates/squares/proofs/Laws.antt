@@ -6,7 +6,7 @@ use mathlib.Core.Bool.{Bool, true, false, _&&_, _||_, not, Bool·beq, true≢fal
 use mathlib.Core.Logic.{⊎-elim}
 use native.Mathlib.Omega.{arith}
 use lib.Dec.{eqb}
-use Rattle.squares.specs.Board.{onBoard, turnedTo, opposite, step}
+use Rattle.squares.specs.Board.{onBoard, flipTo, opposite, step}
 use Rattle.squares.specs.Sets.{has, setOf, emptyS, singleS, orS, andS, xorS, andnotS, notS, flipS, withoutS, shiftS}
 use Rattle.squares.specs.Answers.{SetValue, TruthValue, setIf, truthIf, singleAnswer, containsAnswer, NumberValue, FormValue, numberIf, formIf, unpromotedAnswer, limitAnswer, letterAnswer, promotedAnswer}
 use Rattle.squares.specs.Kinds.{goodKind, kindRow}
@@ -66,9 +66,9 @@ has-withoutS m s n =
     (λ (o : onBoard 9 n ≡ false). ap (λ (t : Bool). t && (has s n && not (eqb n m))) o ∙ sym (ap (λ (t : Bool). t && not (eqb n m)) (has-off s n o)))
     (decided (onBoard 9 n))
 
-pub has-flipS : (s : Bitboard) (n : ℕ) → has (flipS s) n ≡ onBoard 9 n && has s (turnedTo 9 n)
+pub has-flipS : (s : Bitboard) (n : ℕ) → has (flipS s) n ≡ onBoard 9 n && has s (flipTo 9 n)
 unfolding flipS
-has-flipS s n = has-setOf (λ m. has s (turnedTo 9 m)) n
+has-flipS s n = has-setOf (λ m. has s (flipTo 9 m)) n
 
 -- THE shift law: at every direction, distance and number
 pub has-shiftS : (dir : Direction) (d : ℕ) (s : Bitboard) (n : ℕ) → has (shiftS dir d s) n ≡ has s (step 9 (opposite dir) d n)

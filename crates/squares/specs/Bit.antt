@@ -21,6 +21,6 @@ unfoldable pub word : (ℕ → Bool) → ℕ → ℕ → ℕ
 word f i zero = 0
 word f i (suc k) = digit (f i) + 2 * word f (suc i) k
 
--- the nine bits of p, last first
+-- the nine bits of p, last first: what the flip does to a file's pattern
 unfoldable pub reversed9 : ℕ → ℕ
 reversed9 p = word (λ i. bit (8 - i) p) 0 9

@@ -9,7 +9,7 @@ use Rattle.squares.specs.declared.bitboard.Direction.the-variants.{Down,
 unfoldable pub onSide : ℕ → ℕ → Bool
 onSide w k = leb 1 k && leb k w
 
--- the numbers of the squares
+-- a square's number: "So 1A is 1, .. 9I is 81"
 unfoldable pub onBoard : ℕ → ℕ → Bool
 onBoard w n = leb 1 n && leb n (w * w)
 
@@ -17,30 +17,33 @@ onBoard w n = leb 1 n && leb n (w * w)
 unfoldable pub squareAt : ℕ → ℕ → ℕ → ℕ
 squareAt w f r = cond (onSide w f && onSide w r) (w * f - w + r) 0
 
--- the file and the rank of a square
+-- the file of a square: what "Square number" makes a number of, taken back
 unfoldable pub fileOf : ℕ → ℕ → ℕ
 fileOf w n = (n - 1) / w + 1
 
+-- the rank of a square, in the same way
 unfoldable pub rankOf : ℕ → ℕ → ℕ
 rankOf w n = (n - 1) % w + 1
 
 -- "Flip: n goes to 82 - n"
-unfoldable pub turnedTo : ℕ → ℕ → ℕ
-turnedTo w n = w * w + 1 - n
+unfoldable pub flipTo : ℕ → ℕ → ℕ
+flipTo w n = w * w + 1 - n
 
+-- the way back: down and up, left and right undo one another
 abbrev pub opposite : Direction → Direction
 opposite Down = Up
 opposite Up = Down
 opposite Left = Right
 opposite Right = Left
 
--- "down adds to the rank, up subtracts, left adds to the file, right subtracts"
+-- "left adds to the file, right subtracts"
 unfoldable pub fileStep : Direction → ℕ → ℕ → ℕ
 fileStep Down d f = f
 fileStep Up d f = f
 fileStep Left d f = f + d
 fileStep Right d f = f - d
 
+-- "down adds to the rank, up subtracts"
 unfoldable pub rankStep : Direction → ℕ → ℕ → ℕ
 rankStep Down d r = r + d
 rankStep Up d r = r - d

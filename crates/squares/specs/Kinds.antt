@@ -13,6 +13,7 @@ pub record Kind : Type 0 where
   pub limit : ℕ
   pub letter : ℕ
 
+-- a row of the table below: unpromoted kind, promoted kind, limit, letter
 abbrev kind : ℕ → ℕ → ℕ → ℕ → Kind
 kind u p l b = record { unpromoted = u; promoted = p; limit = l; letter = b }
 
@@ -45,6 +46,7 @@ kinds =
 unfoldable pub kindRow : ℕ → Kind
 kindRow k = getD kinds k noKind
 
+-- "Kinds": 1 to 14
 unfoldable pub goodKind : ℕ → Bool
 goodKind k = leb 1 k && leb k 14
 
@@ -56,17 +58,19 @@ handKind k = let u = kindRow k .unpromoted in cond (eqb u 8) 0 u
 unfoldable pub goodColour : ℕ → Bool
 goodColour c = eqb c 1 || eqb c 2
 
+-- of Black White, of White Black
 unfoldable pub otherColour : ℕ → ℕ
 otherColour c = 3 - c
 
--- "Cell: 0 empty, k for a black piece of kind k, 16 + k for a white one. All other values are bad."
+-- "k for a black piece of kind k, 16 + k for a white one"
 unfoldable pub pieceOf : ℕ → ℕ → ℕ
 pieceOf k c = cond (eqb c 1) k (16 + k)
 
--- of a piece its colour and its kind; of the empty cell 0
+-- the colour of a piece; of the empty cell 0
 unfoldable pub colourOf : ℕ → ℕ
 colourOf c = cond (eqb c 0) 0 (cond (leb c 16) 1 2)
 
+-- the kind of a piece; of the empty cell 0
 unfoldable pub kindOf : ℕ → ℕ
 kindOf c = cond (leb c 16) c (c - 16)
 
@@ -74,10 +78,11 @@ kindOf c = cond (leb c 16) c (c - 16)
 unfoldable pub goodPiece : ℕ → Bool
 goodPiece c = goodKind (kindOf c)
 
+-- "0 empty", or a piece: "All other values are bad."
 unfoldable pub goodCell : ℕ → Bool
 goodCell c = eqb c 0 || goodPiece c
 
--- the promoted piece of the same colour, 0 where its kind does not promote
+-- the promoted piece of the same colour, 0 for none: "Gold, King and promoted kinds do not promote"
 unfoldable pub promotedPiece : ℕ → ℕ
 promotedPiece c = let p = kindRow (kindOf c) .promoted in cond (eqb p 0) 0 (pieceOf p (colourOf c))
 

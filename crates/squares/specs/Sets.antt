@@ -5,7 +5,7 @@ use mathlib.Core.List.{List, [], _∷_}
 use lib.ListN.{getD}
 use lib.Dec.{eqb, leb, ltb}
 use Rattle.squares.specs.Bit.{bit, digit, word}
-use Rattle.squares.specs.Board.{onBoard, fileOf, rankOf, turnedTo, opposite, step}
+use Rattle.squares.specs.Board.{onBoard, fileOf, rankOf, flipTo, opposite, step}
 use Rattle.squares.specs.declared.bitboard.Bitboard.{Bitboard}
 use Rattle.squares.specs.declared.bitboard.Direction.{Direction}
 
@@ -22,25 +22,31 @@ setOf f = record { lo = word f 1 63; hi = word f 64 18 }
 unfoldable pub clean : Bitboard → Bool
 clean s = ltb (s .lo) (2 ^ 63) && ltb (s .hi) (2 ^ 18)
 
--- "Empty, single, count, contains, or, and, xor, andnot (in the second, not in the first), not (within the 81)"
+-- "Empty": no square
 unfoldable pub emptyS : Bitboard
 emptyS = setOf (λ n. false)
 
+-- "single": one square
 unfoldable pub singleS : ℕ → Bitboard
 singleS n = setOf (eqb n)
 
+-- "or": in one of the two
 unfoldable pub orS : Bitboard → Bitboard → Bitboard
 orS a b = setOf (λ n. has a n || has b n)
 
+-- "and": in both
 unfoldable pub andS : Bitboard → Bitboard → Bitboard
 andS a b = setOf (λ n. has a n && has b n)
 
+-- "xor": in just one
 unfoldable pub xorS : Bitboard → Bitboard → Bitboard
 xorS a b = setOf (λ n. not (Bool·beq (has a n) (has b n)))
 
+-- "andnot (in the second, not in the first)"
 unfoldable pub andnotS : Bitboard → Bitboard → Bitboard
 andnotS a b = setOf (λ n. not (has a n) && has b n)
 
+-- "not (within the 81)"
 unfoldable pub notS : Bitboard → Bitboard
 notS a = setOf (λ n. not (has a n))
 
@@ -49,10 +55,11 @@ unfoldable pub countOf : (ℕ → Bool) → ℕ → ℕ → ℕ
 countOf f i zero = 0
 countOf f i (suc k) = digit (f i) + countOf f (suc i) k
 
--- how many squares a set has
+-- "count": how many squares a set has
 unfoldable pub size : Bitboard → ℕ
 size s = countOf (has s) 1 81
 
+-- whether it has none
 unfoldable pub isEmpty : Bitboard → Bool
 isEmpty s = eqb (size s) 0
 
@@ -66,17 +73,18 @@ patternOf s f = word (has s) (9 * f - 8) 9
 
 -- "Flip: n goes to 82 - n"
 unfoldable pub flipS : Bitboard → Bitboard
-flipS s = setOf (λ n. has s (turnedTo 9 n))
+flipS s = setOf (λ n. has s (flipTo 9 n))
 
 -- the first of the k numbers from i on that passes the test f, or 0
 unfoldable pub firstOf : (ℕ → Bool) → ℕ → ℕ → ℕ
 firstOf f i zero = 0
 firstOf f i (suc k) = let rest = firstOf f (suc i) k in cond (f i) i rest
 
--- "Pop: the smallest square, and the set without it"
+-- "Pop: the smallest square", 0 where there is none
 unfoldable pub smallest : Bitboard → ℕ
 smallest s = firstOf (has s) 1 81
 
+-- "and the set without it"
 unfoldable pub withoutS : ℕ → Bitboard → Bitboard
 withoutS n s = setOf (λ m. has s m && not (eqb m n))
 

@@ -1,6 +1,6 @@
 // Squares by number, 1 to 81: nine times the file less nine, plus the rank.
 ghost use mathlib.Core.Path.{_≡_};
-ghost use Rattle.squares.specs.Answers.{numberGiven, squareAnswer, fileAnswer, rankAnswer, turnedAnswer};
+ghost use Rattle.squares.specs.Answers.{numberGiven, squareAnswer, fileAnswer, rankAnswer, flipAnswer};
 use crate::answers::NumberAnswer;
 
 pub struct Square;
@@ -40,7 +40,7 @@ impl Square {
 
     // The square that the other player sees in its place.
     pub fn flip(square: u8) -> NumberAnswer
-        ensures { λ r. ⌜ numberGiven r ≡ turnedAnswer square ⌝ }
+        ensures { λ r. ⌜ numberGiven r ≡ flipAnswer square ⌝ }
     {
         match square {
             1..=81 => NumberAnswer::Number(82 - square),

@@ -1,4 +1,4 @@
-use Rattle.position.specs.Steps.{Ready}
+use Rattle.position.specs.Plans.{Ready}
 use Rattle.position.proofs.Ladder.{told-refuses, told-passes, told-clear}
 use Rattle.position.proofs.Playing.{plan-refuses}
 use borrow.Author.Needs.{needs}

@@ -1,16 +1,16 @@
 use native.Mathlib.Omega.{arith}
 use borrow.Author.Tests.{le-leb, lt-leb}
 use borrow.Author.Needs.{needs}
-use Rattle.position.specs.Answers.{handKindOk}
+use Rattle.position.specs.Answers.{goodHandKind}
 use Rattle.position.proofs.queries.is_hand.Statement.{statement}
 use Rattle.position.proofs.queries.is_hand.Tie as tie
 
 returns : tie.Need-returns
-unfolding handKindOk
+unfolding goodHandKind
 returns c = rw (← c .before .before .is-color .ensures, c .before .if1 .taken, le-leb 1 (c .before .before .before .args .kind) (omega arith))
 
 returns-2 : tie.Need-returns-2
-unfolding handKindOk
+unfolding goodHandKind
 returns-2 c = rw (← c .before .before .is-color .ensures, c .before .if1 .taken, lt-leb 1 (c .before .before .before .args .kind) (omega arith))
 
 returns-3 : tie.Need-returns-3

@@ -1,14 +1,14 @@
 use borrow.Author.Tests.{eq-eqb, ne-eqb}
-use Rattle.position.specs.Answers.{kingShown}
+use Rattle.position.specs.Answers.{kingAt}
 use Rattle.position.proofs.queries.king_at.Statement.{statement}
 use Rattle.position.proofs.queries.king_at.Tie as tie
 
 returns : tie.Need-returns
-unfolding kingShown
+unfolding kingAt
 returns c = rw (eq-eqb (c .before .args .q) 0 (c .if1 .taken))
 
 returns-2 : tie.Need-returns-2
-unfolding kingShown
+unfolding kingAt
 returns-2 c = rw (ne-eqb (c .before .args .q) 0 (c .if1 .left))
 
 pub king-at-spec : {M : Type 1} → statement M

@@ -1,6 +1,6 @@
 use mathlib.Core.Path.{sym, _∙_}
 use borrow.Author.Tests.{eq-eqb, ne-eqb, not-true, not-false}
-use Rattle.position.specs.Steps.{Steppable}
+use Rattle.position.specs.Plans.{Steppable}
 use Rattle.position.proofs.Playing.{plan-keeps}
 use Rattle.position.proofs.Stepping.{step-bad, step-nobody, step-last}
 use borrow.Author.Needs.{needs}

@@ -1,7 +1,7 @@
 use Prim.Native.Nat.{ℕ}
 use mathlib.Core.List.{List, [], _∷_, _++_}
 use borrow.Author.Needs.{needs}
-use Rattle.sfen.specs.Text.{shogi, boardText, sideByte, handsText, number}
+use Rattle.sfen.specs.Text.{shogi, boardText, sideByte, handsText, numberText}
 use Rattle.sfen.specs.Inner.{Room}
 use Rattle.sfen.proofs.Lines.{puts-append, room-first, room-next}
 use Rattle.sfen.proofs.Cases.{text-parts}
@@ -10,7 +10,7 @@ use Rattle.sfen.proofs.write.put_text.Tie as tie
 
 -- what is still to be written behind the board, the side and the hands
 abbrev last : ℕ → List ℕ
-last ply = (32 ∷ []) ++ number ply
+last ply = (32 ∷ []) ++ numberText ply
 
 abbrev held : List ℕ → ℕ → List ℕ
 held hands ply = handsText shogi hands ++ last ply

@@ -4,13 +4,13 @@ use Prim.Native.Nat.{_≤_}
 use native.Mathlib.Omega.{arith}
 use borrow.Author.Needs.{needs}
 use Rattle.squares.specs.Kinds.{goodColour}
-use Rattle.position.specs.Answers.{toldQuery, handKindOk, handAt}
+use Rattle.position.specs.Answers.{toldQuery, goodHandKind, handAt}
 use Rattle.position.proofs.Asking.{hand-refused, hand-done, hand-numbers}
 use Rattle.position.proofs.position.Position.hand.Statement.{statement}
 use Rattle.position.proofs.position.Position.hand.Tie as tie
 
 module _ (c : tie.After-told) where
-  query : c .told .result ≡ toldQuery (not (goodColour (c .before .before .args .color) && handKindOk (c .before .before .args .kind))) (c .before .before .args .t1)
+  query : c .told .result ≡ toldQuery (not (goodColour (c .before .before .args .color) && goodHandKind (c .before .before .args .kind))) (c .before .before .args .t1)
   query = c .told .ensures ∙ ap (λ (b : Bool). toldQuery (not b) (c .before .before .args .t1)) (c .before .is-hand .ensures)
 
 module _ (c : tie.Else1) where

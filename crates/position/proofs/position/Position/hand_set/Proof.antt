@@ -5,7 +5,7 @@ use lib.ListN.{length-map}
 use borrow.Author.Needs.{needs}
 use Rattle.squares.specs.Kinds.{goodColour}
 use Rattle.position.specs.Machine.{machine}
-use Rattle.position.specs.Answers.{toldQuery, handKindOk}
+use Rattle.position.specs.Answers.{toldQuery, goodHandKind}
 use Rattle.position.specs.Edits.{handEdited, withHands}
 use Rattle.position.proofs.InOrder.{Sized}
 use Rattle.position.proofs.Asking.{done-sound, hand-numbers}
@@ -26,7 +26,7 @@ module _ (c : tie.After-told) where
   abbrev start : tie.Start
   start = c .before .before
 
-  heard : c .told .result ≡ toldQuery (not (goodColour (start .args .color) && handKindOk (start .args .kind))) (start .args .self)
+  heard : c .told .result ≡ toldQuery (not (goodColour (start .args .color) && goodHandKind (start .args .kind))) (start .args .self)
   heard = c .told .ensures ∙ ap (λ (b : Bool). toldQuery (not b) (start .args .self)) (c .before .is-hand .ensures)
 
 returns : tie.Need-returns

@@ -6,19 +6,19 @@ use Rattle.position.proofs.position.Position.step.Tie as tie
 store-requires : tie.Need-store-requires
 store-requires c κs = c .step-plan .ensures .fits
 
-turn-requires : tie.Need-turn-requires
-turn-requires c κs = c .before .step-plan .ensures .fits .at-from
+toggle-requires : tie.Need-toggle-requires
+toggle-requires c κs = c .before .step-plan .ensures .fits .at-from
 
-turn-requires-2 : tie.Need-turn-requires-2
-turn-requires-2 c κs = c .before .before .step-plan .ensures .fits .at-to
+toggle-requires-2 : tie.Need-toggle-requires-2
+toggle-requires-2 c κs = c .before .before .step-plan .ensures .fits .at-to
 
-turn-requires-3 : tie.Need-turn-requires-3
-turn-requires-3 c κs = c .before .before .before .step-plan .ensures .fits .at-to
+toggle-requires-3 : tie.Need-toggle-requires-3
+toggle-requires-3 c κs = c .before .before .before .step-plan .ensures .fits .at-to
 
 returns : tie.Need-returns
 unfolding playedBy
-returns c = let q = c .before .before .before in rw (c .turn3 .ensures, c .before .turn2 .ensures, c .before .before .turn .ensures, q .store .ensures) (q .before .step-plan .ensures .does)
+returns c = let q = c .before .before .before in rw (c .toggle3 .ensures, c .before .toggle2 .ensures, c .before .before .toggle .ensures, q .store .ensures) (q .before .step-plan .ensures .does)
 
 pub step-spec : {M : Type 1} → statement M
 step-spec =
-    tie.close (tie.spec (search needs) store-requires turn-requires turn-requires-2 turn-requires-3 returns)
+    tie.close (tie.spec (search needs) store-requires toggle-requires toggle-requires-2 toggle-requires-3 returns)

@@ -8,8 +8,8 @@ use Rattle.squares.specs.Kinds.{goodPiece}
 use Rattle.squares.proofs.Laws.{piece-kind}
 use Rattle.position.proofs.Playing.{colour-in, Coloured, colour-turned, colour-same, kind-turned, kind-same}
 use borrow.Author.Needs.{needs}
-use Rattle.position.proofs.step.turn.Statement.{statement}
-use Rattle.position.proofs.step.turn.Tie as tie
+use Rattle.position.proofs.step.toggle.Statement.{statement}
+use Rattle.position.proofs.step.toggle.Tie as tie
 
 players-size : (s : tie.Start) → length (s .args .p .players) ≡ 2
 players-size s = omega (arith, length-map (s .args .p .players) (Rattle.squares.proofs.bitboard.Bitboard.the-type .to), s .good)
@@ -58,8 +58,8 @@ returns c = let k = c .before .before in let j = k .before .before .before in ki
 returns-2 : tie.Need-returns-2
 returns-2 c = let j = c .before .before in kind-same _ _ _ _ (turned j) (kinds-size (j .before .before)) (sym (c .before .is-piece .ensures) ∙ c .if2 .left)
 
-pub turn-spec : {M : Type 1} → statement M
-turn-spec =
+pub toggle-spec : {M : Type 1} → statement M
+toggle-spec =
     tie.close
     (tie.spec
     (search needs)
