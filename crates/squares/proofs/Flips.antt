@@ -39,9 +39,11 @@ ltb-same a b c f g = ⊎-elim (λ p. le-ltb a b p ∙ sym (le-ltb a c (g p))) (�
 turned : (s : Bitboard) (f j : ℕ) → j < 9 → bit j (reversed9 (patternOf s f)) ≡ has s (9 * f - 8 + (8 - j))
 unfolding reversed9 patternOf
 turned s f j h =
+    let e : 0 + j ≡ j = omega arith in
+    let l : 8 - j < 9 = omega arith in
     bit-word (λ i. bit (8 - i) (word (has s) (9 * f - 8) 9)) j 0 9 h
-    ∙ (let e : 0 + j ≡ j = omega arith in ap (λ (i : ℕ). bit (8 - i) (word (has s) (9 * f - 8) 9)) e)
-    ∙ bit-word (has s) (8 - j) (9 * f - 8) 9 (omega arith)
+    ∙ ap (λ (i : ℕ). bit (8 - i) (word (has s) (9 * f - 8) 9)) e
+    ∙ bit-word (has s) (8 - j) (9 * f - 8) 9 l
 
 step-rule : (s : Bitboard) (f n : ℕ) → 1 ≤ f → f ≤ 9 → onBoard 9 n ≡ true
     → (has s (82 - n) && ltb 10 (f + fileOf 9 n)) || (eqb (fileOf 9 n) (10 - f) && bit (rankOf 9 n - 1) (reversed9 (patternOf s f))) ≡ has s (82 - n) && ltb 10 (f + 1 + fileOf 9 n)

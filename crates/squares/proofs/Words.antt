@@ -55,7 +55,7 @@ module _ (a : Bitboard) (hl : a .lo < 2 ^ 64) (hh : a .hi < 2 ^ 64) where
 one-shl : (k : ℕ) → k < 64 → (1 * 2 ^ k) % 2 ^ 64 ≡ 2 ^ k
 one-shl k h = ap (λ (x : ℕ). x % 2 ^ 64) (one-mul (2 ^ k)) ∙ mod-eq-of-lt (pow-lt h)
 
-pub single-lo : (n : ℕ) → 1 ≤ n → n ≤ 63 → record { lo = (1 * 2 ^ (n - 1)) % 2 ^ 64; hi = 0 } ≡ singleS n
+pub single-lo : (n : ℕ) → 1 ≤ n → n < 64 → record { lo = (1 * 2 ^ (n - 1)) % 2 ^ 64; hi = 0 } ≡ singleS n
 unfolding singleS
 single-lo n l h =
     let e : (1 * 2 ^ (n - 1)) % 2 ^ 64 ≡ 2 ^ (n - 1) = one-shl (n - 1) (omega arith) in
@@ -63,7 +63,7 @@ single-lo n l h =
     (λ i k. ap (bit i) e ∙ bit-pow i (n - 1) ∙ eqb-same i (n - 1) n (1 + i) (λ q. omega arith) (λ q. omega arith))
     (λ i k. bit-of-zero i ∙ sym (ne-eqb n (64 + i) (λ q. omega arith)))
 
-pub single-hi : (n : ℕ) → 63 < n → n ≤ 81 → record { lo = 0; hi = (1 * 2 ^ (n - 64)) % 2 ^ 64 } ≡ singleS n
+pub single-hi : (n : ℕ) → 64 ≤ n → n < 82 → record { lo = 0; hi = (1 * 2 ^ (n - 64)) % 2 ^ 64 } ≡ singleS n
 unfolding singleS
 single-hi n l h =
     let e : (1 * 2 ^ (n - 64)) % 2 ^ 64 ≡ 2 ^ (n - 64) = one-shl (n - 64) (omega arith) in
@@ -71,22 +71,22 @@ single-hi n l h =
     (λ i k. bit-of-zero i ∙ sym (ne-eqb n (1 + i) (λ q. omega arith)))
     (λ i k. ap (bit i) e ∙ bit-pow i (n - 64) ∙ eqb-same i (n - 64) n (64 + i) (λ q. omega arith) (λ q. omega arith))
 
-pub single-good : (n : ℕ) → 1 ≤ n → n ≤ 81 → record { number = 0; set = singleS n } ≡ singleAnswer n
+pub single-good : (n : ℕ) {r : Bitboard} → 1 ≤ n → n < 82 → r ≡ singleS n → record { number = 0; set = r } ≡ singleAnswer n
 unfolding singleAnswer
-single-good n l h = rw (board-on 9 n l h)
+single-good n l h e = rw (e, board-on 9 n l (omega arith))
 
 pub single-bad : (n : ℕ) → onBoard 9 n ≡ false → record { number = 2; set = emptyS } ≡ singleAnswer n
 unfolding singleAnswer
 single-bad n e = rw e
 
 -- ---- contains
-pub contains-lo : (s : Bitboard) (n : ℕ) → 1 ≤ n → n ≤ 63 → record { number = 0; truth = eqb (s .lo / 2 ^ (n - 1) % 2) 1 } ≡ containsAnswer s n
+pub contains-lo : (s : Bitboard) (n : ℕ) → 1 ≤ n → n < 64 → record { number = 0; truth = eqb (s .lo / 2 ^ (n - 1) % 2) 1 } ≡ containsAnswer s n
 unfolding containsAnswer has bit odd
-contains-lo s n l h = rw (board-on 9 n l (omega arith), le-leb n 63 h)
+contains-lo s n l h = rw (board-on 9 n l (omega arith), le-leb n 63 (omega arith))
 
-pub contains-hi : (s : Bitboard) (n : ℕ) → 63 < n → n ≤ 81 → record { number = 0; truth = eqb (s .hi / 2 ^ (n - 64) % 2) 1 } ≡ containsAnswer s n
+pub contains-hi : (s : Bitboard) (n : ℕ) → 64 ≤ n → n < 82 → record { number = 0; truth = eqb (s .hi / 2 ^ (n - 64) % 2) 1 } ≡ containsAnswer s n
 unfolding containsAnswer has bit odd
-contains-hi s n l h = rw (board-on 9 n (omega arith) h, lt-leb n 63 l)
+contains-hi s n l h = rw (board-on 9 n (omega arith) (omega arith), lt-leb n 63 l)
 
 pub contains-bad : (s : Bitboard) (n : ℕ) → onBoard 9 n ≡ false → record { number = 2; truth = false } ≡ containsAnswer s n
 unfolding containsAnswer

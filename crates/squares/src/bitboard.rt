@@ -228,9 +228,10 @@ impl Bitboard {
         if 9 < delta {
             return SetAnswer::BadNumber;
         }
+        let by = delta as u64;
         let top: u64 = 0x8040_2010_0804_0200;
-        let mask = top - (top >> (9 - delta));
-        SetAnswer::Set(Self::clean((self.lo << delta) & mask, (self.hi << delta) & mask))
+        let mask = top - (top >> (9 - by));
+        SetAnswer::Set(Self::clean((self.lo << by) & mask, (self.hi << by) & mask))
     }
 
     pub fn shift_up(self, delta: u8) -> SetAnswer
@@ -239,9 +240,10 @@ impl Bitboard {
         if 9 < delta {
             return SetAnswer::BadNumber;
         }
+        let by = delta as u64;
         let bottom: u64 = 0x40_2010_0804_0201;
-        let mask = (bottom << (9 - delta)) - bottom;
-        SetAnswer::Set(Self::clean((self.lo >> delta) & mask, (self.hi >> delta) & mask))
+        let mask = (bottom << (9 - by)) - bottom;
+        SetAnswer::Set(Self::clean((self.lo >> by) & mask, (self.hi >> by) & mask))
     }
 
     pub fn shift_left(self, delta: u8) -> SetAnswer
@@ -252,7 +254,7 @@ impl Bitboard {
         }
         let lo = self.lo & Self::MASK0;
         let hi = self.hi & Self::MASK1;
-        let by = 9 * delta;
+        let by = 9 * delta as u64;
         if delta <= 7 {
             return SetAnswer::Set(Self::clean(lo << by, (hi << by) | (lo >> (63 - by))));
         }
@@ -267,7 +269,7 @@ impl Bitboard {
         }
         let lo = self.lo & Self::MASK0;
         let hi = self.hi & Self::MASK1; // a stray bit would come down onto the board
-        let by = 9 * delta;
+        let by = 9 * delta as u64;
         if delta <= 7 {
             return SetAnswer::Set(Self::clean((lo >> by) | (hi << (63 - by)), hi >> by));
         }

@@ -2,7 +2,7 @@
 use Prim.Native.Nat.{_-_, _^_, _≤_}
 use mathlib.Core.Path.{_≡_, refl, _∙_}
 use native.Mathlib.Omega.{arith}
-use borrow.Author.Needs.{needs}
+use borrow.Author.Needs.{needs, zero≤}
 use Rattle.squares.specs.Sets.{tab}
 use Rattle.squares.proofs.ByCell.{wordsTo, next-bit, words-none, words-all, words-room, words-more}
 use Rattle.squares.proofs.by_cell.cell_words.Statement.{statement}
@@ -16,28 +16,28 @@ abbrev μ-loop : tie.MeasureT-loop
 
 loop-holds : tie.Need-loop-holds Inv-loop μ-loop
 unfolding tab
-loop-holds c = (omega arith, words-none (c .args .board .now) (c .args .from), refl)
+loop-holds c = (zero≤, words-none (c .args .board .now) (c .args .from), refl)
 
 add-words : tie.Need-add-words Inv-loop μ-loop
 add-words c =
     let l = c .before .before .before .loop in
     let s = c .before .before .before .before in
-    record { fits = words-room (s .args .board .now) (s .args .from) (l .i) (c .place .result) (l .bit) (l .words) (l .inv .1) (c .place .ensures .1) (l .inv .2) (omega (arith, s .pre)) }
+    record { fits = words-room (s .args .board .now) (s .args .from) (l .i) (c .place .result) (l .bit) (l .words) (l .inv .1) (c .place .ensures .1) (l .inv .2) (omega (arith, s .pre, c .before .before .loop-test .taken)) }
 
 loop-again : tie.Need-loop-again Inv-loop μ-loop
 loop-again c =
     let l = c .before .before .before .loop in
     let s = c .before .before .before .before in (
-      omega arith,
+      omega (arith, c .before .before .loop-test .taken),
       words-more (s .args .board .now) (s .args .from) (l .i) (c .place .result) (l .bit) (l .words) (l .inv .1) (c .place .ensures .1) (c .place .ensures .0) (l .inv .2),
-      next-bit (l .bit) (l .i) (l .inv .2) (omega (arith, s .pre)),
+      next-bit (l .bit) (l .i) (l .inv .2) (omega (arith, s .pre, c .before .before .loop-test .taken)),
     )
 
 returns : tie.Need-returns Inv-loop μ-loop
 returns c =
     let l = c .before .loop in
     let s = c .before .before in
-    l .inv .1 ∙ words-all (s .args .board .now) (s .args .from) (s .args .count) (l .i) (omega arith)
+    l .inv .1 ∙ words-all (s .args .board .now) (s .args .from) (s .args .count) (l .i) (omega (arith, l .inv .0, c .loop-test .left))
 
 pub cell-words-spec : {M : Type 1} → statement M
 cell-words-spec =
@@ -46,15 +46,15 @@ cell-words-spec =
     Inv-loop
     μ-loop
     loop-holds
+    (λ c. omega (arith, c .before .before .pre, c .loop-test .taken))
+    (λ c. omega (arith, c .before .before .pre, c .loop-test .taken))
     (search needs)
     (search needs)
-    (search needs)
-    (search needs)
-    (search needs)
+    (λ c. c .place .ensures .1)
     add-words
     (search needs)
-    (search needs)
-    (search needs)
-    (search needs)
+    (λ c. c .place .ensures .1)
+    (λ c. omega (arith, c .before .before .before .before .pre, c .before .before .loop-test .taken))
+    (λ c. omega (arith, c .before .before .loop-test .taken))
     loop-again
     returns)

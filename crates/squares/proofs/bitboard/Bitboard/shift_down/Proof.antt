@@ -1,4 +1,5 @@
 use native.Mathlib.Nat.{div-le-self}
+use native.Mathlib.Omega.{arith}
 use Rattle.squares.specs.declared.bitboard.Direction.the-variants.{Down}
 use Rattle.squares.proofs.Shifts.{shift-bad, down-answer}
 use borrow.Author.Needs.{needs}
@@ -6,15 +7,20 @@ use Rattle.squares.proofs.bitboard.Bitboard.shift_down.Statement.{state
 use Rattle.squares.proofs.bitboard.Bitboard.shift_down.Tie as tie
 
 returns : tie.Need-returns
-returns c = shift-bad Down (c .before .args .delta) (c .before .args .self) (search needs)
-
-sub-mask : tie.Need-sub-mask
-sub-mask c = div-le-self 0x8040_2010_0804_0200 _
+returns c = shift-bad Down (c .before .args .delta) (c .before .args .self) (c .if1 .taken)
 
 returns-2 : tie.Need-returns-2
-returns-2 c = let a = c .before .before .before .before .args in down-answer (a .self) (a .delta) (search needs) (c .clean .ensures)
+returns-2 c = let a = c .before .before .before .before .args in down-answer (a .self) (a .delta) (c .before .before .before .if1 .left) (c .clean .ensures)
 
 pub shift-down-spec : {M : Type 1} → statement M
 shift-down-spec =
     tie.close
-    (tie.spec returns (search needs) (search needs) sub-mask (search needs) (search needs) (search needs) returns-2)
+    (tie.spec
+    returns
+    (λ c. c .if1 .left)
+    (λ c. omega (arith, c .if1 .left))
+    (λ c. div-le-self 0x8040_2010_0804_0200 _)
+    (λ c. omega (arith, c .before .if1 .left))
+    (λ c. omega (arith, c .before .before .if1 .left))
+    (search needs)
+    returns-2)

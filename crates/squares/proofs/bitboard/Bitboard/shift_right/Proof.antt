@@ -1,3 +1,4 @@
+use native.Mathlib.Omega.{arith}
 use Rattle.squares.specs.declared.bitboard.Direction.the-variants.{Right}
 use Rattle.squares.proofs.Shifts.{shift-bad, right-near, right-beyond}
 use borrow.Author.Needs.{needs}
@@ -5,31 +6,27 @@ use Rattle.squares.proofs.bitboard.Bitboard.shift_right.Statement.{stat
 use Rattle.squares.proofs.bitboard.Bitboard.shift_right.Tie as tie
 
 returns : tie.Need-returns
-returns c = shift-bad Right (c .before .args .delta) (c .before .args .self) (search needs)
+returns c = shift-bad Right (c .before .args .delta) (c .before .args .self) (c .if1 .taken)
 
 returns-2 : tie.Need-returns-2
-returns-2 c = let a = c .before .before .before .before .before .args in right-near (a .self) (a .delta) (search needs) (c .clean .ensures)
+returns-2 c = let a = c .before .before .before .before .before .args in right-near (a .self) (a .delta) (c .before .if2 .taken) (c .clean .ensures)
 
 returns-3 : tie.Need-returns-3
-returns-3 c = let a = c .before .before .before .before .before .args in right-beyond (a .self) (a .delta) (search needs) (search needs) (c .clean2 .ensures)
+returns-3 c = let a = c .before .before .before .before .before .args in right-beyond (a .self) (a .delta) (c .before .if2 .left) (c .before .before .before .before .if1 .left) (c .clean2 .ensures)
 
 pub shift-right-spec : {M : Type 1} → statement M
 shift-right-spec =
     tie.close
     (tie.spec
     returns
-    (search needs)
-    (search needs)
-    (search needs)
-    (search needs)
-    (search needs)
-    (search needs)
-    (search needs)
-    (search needs)
+    (λ c. omega (arith, c .before .before .if1 .left))
+    (λ c. omega (arith, c .if2 .taken))
+    (λ c. omega (arith, c .if2 .taken))
+    (λ c. omega (arith, c .if2 .taken))
+    (λ c. omega (arith, c .if2 .taken))
     (search needs)
     returns-2
-    (search needs)
-    (search needs)
-    (search needs)
+    (λ c. omega (arith, c .if2 .left))
+    (λ c. omega (arith, c .before .before .before .if1 .left))
     (search needs)
     returns-3)

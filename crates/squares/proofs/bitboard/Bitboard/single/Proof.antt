@@ -1,22 +1,35 @@
-use Prim.Native.Nat.{ℕ}
+use native.Mathlib.Omega.{arith}
 use Rattle.squares.proofs.Steps.{board-low, board-high}
 use Rattle.squares.proofs.Words.{single-lo, single-hi, single-good, single-bad}
-use borrow.Author.Needs.{needs}
 use Rattle.squares.proofs.bitboard.Bitboard.single.Statement.{statement}
 use Rattle.squares.proofs.bitboard.Bitboard.single.Tie as tie
 
 returns : tie.Need-returns
-returns c = let n : ℕ = c .before .before .args .square in rw (single-lo n (search needs) (search needs)) (single-good n (search needs) (search needs))
+returns c =
+    let n = c .before .before .args .square in
+    let l = c .before .if1 .left in
+    single-good n l (omega (arith, c .if2 .taken)) (single-lo n l (c .if2 .taken))
 
 returns-2 : tie.Need-returns-2
-returns-2 c = let n : ℕ = c .before .before .before .args .square in rw (single-hi n (search needs) (search needs)) (single-good n (search needs) (search needs))
+returns-2 c =
+    let n = c .before .before .before .args .square in
+    single-good n (c .before .before .if1 .left) (c .if3 .taken) (single-hi n (c .before .if2 .left) (c .if3 .taken))
 
 returns-3 : tie.Need-returns-3
-returns-3 c = let n : ℕ = c .before .args .square in single-bad n (board-low 9 n (search needs))
+returns-3 c = let n = c .before .args .square in single-bad n (board-low 9 n (c .if1 .taken))
 
 returns-4 : tie.Need-returns-4
-returns-4 c = let n : ℕ = c .before .before .before .args .square in single-bad n (board-high 9 n (search needs) (search needs))
+returns-4 c = let n = c .before .before .before .args .square in single-bad n (board-high 9 n (c .before .before .if1 .left) (c .if3 .left))
 
 pub single-spec : {M : Type 1} → statement M
 single-spec =
-    tie.close (tie.spec (search needs) (search needs) (search needs) (search needs) returns returns-2 returns-3 returns-4)
+    tie.close
+    (tie.spec
+    (λ c. omega (arith, c .before .if1 .left))
+    (λ c. omega (arith, c .if2 .taken))
+    (λ c. omega (arith, c .before .if2 .left))
+    (λ c. omega (arith, c .if3 .taken))
+    returns
+    returns-2
+    returns-3
+    returns-4)
