@@ -96,9 +96,9 @@ pattern-hi s f l h =
     low9 (s .hi) (9 * (f - 8)) i k ∙ sym (bit-word (has s) i (9 * f - 8) 9 k ∙ ap (has s) e ∙ has-hi s (i + 9 * (f - 8)) (omega arith)))
 
 -- ---- answers
-pub file-good : (f p : ℕ) → 1 ≤ f → f ≤ 9 → p < 512 → record { number = 0; set = fileS f p } ≡ fromFileAnswer f p
+pub file-good : (f p : ℕ) {r : Bitboard} → 1 ≤ f → f < 10 → p ≤ 511 → r ≡ fileS f p → record { number = 0; set = r } ≡ fromFileAnswer f p
 unfolding fromFileAnswer
-file-good f p l h hp = rw (side-on 9 f l h, lt-ltb p 512 hp)
+file-good f p l h hp e = rw (e, side-on 9 f l (omega arith), lt-ltb p 512 (omega arith))
 
 pub file-bad : (f p : ℕ) → onSide 9 f ≡ false → record { number = 2; set = emptyS } ≡ fromFileAnswer f p
 unfolding fromFileAnswer
@@ -108,9 +108,9 @@ pub file-bad-pattern : (f p : ℕ) → 511 < p → record { number = 2; set = em
 unfolding fromFileAnswer
 file-bad-pattern f p hp = rw (le-ltb p 512 hp, and-false)
 
-pub pattern-good : (s : Bitboard) (f : ℕ) → 1 ≤ f → f ≤ 9 → record { number = 0; value = patternOf s f } ≡ getFileAnswer s f
+pub pattern-good : (s : Bitboard) (f : ℕ) {r : ℕ} → 1 ≤ f → f < 10 → r ≡ patternOf s f → record { number = 0; value = r } ≡ getFileAnswer s f
 unfolding getFileAnswer
-pattern-good s f l h = rw (side-on 9 f l h)
+pattern-good s f l h e = rw (e, side-on 9 f l (omega arith))
 
 pub pattern-bad : (s : Bitboard) (f : ℕ) → onSide 9 f ≡ false → record { number = 2; value = 0 } ≡ getFileAnswer s f
 unfolding getFileAnswer

@@ -14,4 +14,5 @@ mod Lowest
 mod Files
 mod Flips
 mod Numbers
+mod Pieces
 mod Unique

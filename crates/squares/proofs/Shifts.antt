@@ -10,7 +10,7 @@ use borrow.Author.Tests.{le-leb, lt-leb, lt-ltb, le-ltb}
 use Rattle.squares.specs.Bit.{odd, bit}
 use Rattle.squares.specs.Board.{onSide, fileOf, rankOf, squareAt, fileStep, rankStep, opposite, step}
 use Rattle.squares.specs.Sets.{has, setOf, emptyS, shiftS}
-use Rattle.squares.specs.Answers.{shiftAnswer}
+use Rattle.squares.specs.Answers.{SetValue, shiftAnswer}
 use Rattle.squares.specs.declared.bitboard.Bitboard.{Bitboard}
 use Rattle.squares.specs.declared.bitboard.Direction.{Direction}
 use Rattle.squares.specs.declared.bitboard.Direction.the-variants.{Down, Up, Left, Right}
@@ -27,6 +27,10 @@ shift-good dir d s h = rw (le-leb d 9 h)
 pub shift-bad : (dir : Direction) (d : ℕ) (s : Bitboard) → 9 < d → record { number = 2; set = emptyS } ≡ shiftAnswer dir d s
 unfolding shiftAnswer
 shift-bad dir d s h = rw (lt-leb d 9 h)
+
+-- the answer of the direction that is told
+pub shift-told : {dir told : Direction} {v : SetValue} (d : ℕ) (s : Bitboard) → dir ≡ told → v ≡ shiftAnswer told d s → v ≡ shiftAnswer dir d s
+shift-told d s e q = q ∙ ap (λ (x : Direction). shiftAnswer x d s) (sym e)
 
 -- the stray bits make no difference
 shifted : (dir : Direction) (d : ℕ) (s : Bitboard) {r : Bitboard} → d ≤ 9 → r ≡ shiftS dir d (cleaned s) → record { number = 0; set = r } ≡ shiftAnswer dir d s

@@ -55,25 +55,27 @@ module _ (a : Bitboard) (hl : a .lo < 2 ^ 64) (hh : a .hi < 2 ^ 64) where
 one-shl : (k : ℕ) → k < 64 → (1 * 2 ^ k) % 2 ^ 64 ≡ 2 ^ k
 one-shl k h = ap (λ (x : ℕ). x % 2 ^ 64) (one-mul (2 ^ k)) ∙ mod-eq-of-lt (pow-lt h)
 
-pub single-lo : (n : ℕ) → 1 ≤ n → n < 64 → record { lo = (1 * 2 ^ (n - 1)) % 2 ^ 64; hi = 0 } ≡ singleS n
+single-good : (n : ℕ) {r : Bitboard} → 1 ≤ n → n < 82 → r ≡ singleS n → record { number = 0; set = r } ≡ singleAnswer n
+unfolding singleAnswer
+single-good n l h e = rw (e, board-on 9 n l (omega arith))
+
+pub single-lo : (n : ℕ) → 1 ≤ n → n < 64 → record { number = 0; set = record { lo = (1 * 2 ^ (n - 1)) % 2 ^ 64; hi = 0 } } ≡ singleAnswer n
 unfolding singleS
 single-lo n l h =
     let e : (1 * 2 ^ (n - 1)) % 2 ^ 64 ≡ 2 ^ (n - 1) = one-shl (n - 1) (omega arith) in
-    is-set (record { lo = (1 * 2 ^ (n - 1)) % 2 ^ 64; hi = 0 }) (eqb n) (subst (λ (x : ℕ). x < 2 ^ 63) (sym e) (pow-lt {j = 63} (omega arith))) (omega arith)
+    single-good n l (omega arith)
+    (is-set (record { lo = (1 * 2 ^ (n - 1)) % 2 ^ 64; hi = 0 }) (eqb n) (subst (λ (x : ℕ). x < 2 ^ 63) (sym e) (pow-lt {j = 63} (omega arith))) (omega arith)
     (λ i k. ap (bit i) e ∙ bit-pow i (n - 1) ∙ eqb-same i (n - 1) n (1 + i) (λ q. omega arith) (λ q. omega arith))
-    (λ i k. bit-of-zero i ∙ sym (ne-eqb n (64 + i) (λ q. omega arith)))
+    (λ i k. bit-of-zero i ∙ sym (ne-eqb n (64 + i) (λ q. omega arith))))
 
-pub single-hi : (n : ℕ) → 64 ≤ n → n < 82 → record { lo = 0; hi = (1 * 2 ^ (n - 64)) % 2 ^ 64 } ≡ singleS n
+pub single-hi : (n : ℕ) → 64 ≤ n → n < 82 → record { number = 0; set = record { lo = 0; hi = (1 * 2 ^ (n - 64)) % 2 ^ 64 } } ≡ singleAnswer n
 unfolding singleS
 single-hi n l h =
     let e : (1 * 2 ^ (n - 64)) % 2 ^ 64 ≡ 2 ^ (n - 64) = one-shl (n - 64) (omega arith) in
-    is-set (record { lo = 0; hi = (1 * 2 ^ (n - 64)) % 2 ^ 64 }) (eqb n) (omega arith) (subst (λ (x : ℕ). x < 2 ^ 18) (sym e) (pow-lt {j = 18} (omega arith)))
+    single-good n (omega arith) h
+    (is-set (record { lo = 0; hi = (1 * 2 ^ (n - 64)) % 2 ^ 64 }) (eqb n) (omega arith) (subst (λ (x : ℕ). x < 2 ^ 18) (sym e) (pow-lt {j = 18} (omega arith)))
     (λ i k. bit-of-zero i ∙ sym (ne-eqb n (1 + i) (λ q. omega arith)))
-    (λ i k. ap (bit i) e ∙ bit-pow i (n - 64) ∙ eqb-same i (n - 64) n (64 + i) (λ q. omega arith) (λ q. omega arith))
-
-pub single-good : (n : ℕ) {r : Bitboard} → 1 ≤ n → n < 82 → r ≡ singleS n → record { number = 0; set = r } ≡ singleAnswer n
-unfolding singleAnswer
-single-good n l h e = rw (e, board-on 9 n l (omega arith))
+    (λ i k. ap (bit i) e ∙ bit-pow i (n - 64) ∙ eqb-same i (n - 64) n (64 + i) (λ q. omega arith) (λ q. omega arith)))
 
 pub single-bad : (n : ℕ) → onBoard 9 n ≡ false → record { number = 2; set = emptyS } ≡ singleAnswer n
 unfolding singleAnswer

@@ -5,6 +5,7 @@ ghost use Rattle.squares.specs.Kinds.{goodCell};
 ghost use Rattle.squares.specs.Answers.{numberGiven, formGiven, pieceAnswer, kindAnswer, colourAnswer, promotedPieceAnswer, unpromotedPieceAnswer};
 use crate::answers::FormAnswer;
 use crate::answers::NumberAnswer;
+use crate::piece_kind::PieceKind;
 
 pub struct Piece;
 
@@ -57,14 +58,14 @@ impl Piece {
     pub fn promote(piece: u8) -> FormAnswer
         ensures { λ r. ⌜ formGiven r ≡ promotedPieceAnswer piece ⌝ }
     {
-        match piece {
-            1..=4 => FormAnswer::Form(piece + 8),
-            6..=7 => FormAnswer::Form(piece + 7),
-            1..=14 => FormAnswer::Nothing,
-            17..=20 => FormAnswer::Form(piece + 8),
-            22..=23 => FormAnswer::Form(piece + 7),
-            17..=30 => FormAnswer::Nothing,
-            _ => FormAnswer::BadNumber,
+        if 31 < piece {
+            return FormAnswer::BadNumber;
+        }
+        let kind = piece % 16;
+        match PieceKind::promote(kind) {
+            FormAnswer::Form(promoted) => FormAnswer::Form(piece - kind + promoted),
+            FormAnswer::Nothing => FormAnswer::Nothing,
+            FormAnswer::BadNumber => FormAnswer::BadNumber,
         }
     }
 
@@ -72,14 +73,13 @@ impl Piece {
     pub fn unpromote(piece: u8) -> NumberAnswer
         ensures { λ r. ⌜ numberGiven r ≡ unpromotedPieceAnswer piece ⌝ }
     {
-        match piece {
-            1..=8 => NumberAnswer::Number(piece),
-            9..=12 => NumberAnswer::Number(piece - 8),
-            13..=14 => NumberAnswer::Number(piece - 7),
-            17..=24 => NumberAnswer::Number(piece),
-            25..=28 => NumberAnswer::Number(piece - 8),
-            29..=30 => NumberAnswer::Number(piece - 7),
-            _ => NumberAnswer::BadNumber,
+        if 31 < piece {
+            return NumberAnswer::BadNumber;
+        }
+        let kind = piece % 16;
+        match PieceKind::unpromote(kind) {
+            NumberAnswer::Number(unpromoted) => NumberAnswer::Number(piece - kind + unpromoted),
+            NumberAnswer::BadNumber => NumberAnswer::BadNumber,
         }
     }
 }

@@ -1,17 +1,14 @@
 use Rattle.squares.proofs.Steps.{side-low, side-high}
 use Rattle.squares.proofs.Files.{pattern-good, pattern-bad}
-use borrow.Author.Needs.{needs}
+use native.Mathlib.Omega.{arith}
 use Rattle.squares.proofs.bitboard.Bitboard.get_file.Statement.{statement}
 use Rattle.squares.proofs.bitboard.Bitboard.get_file.Tie as tie
 
-returns : tie.Need-returns
-returns c = let a = c .before .before .before .args in rw (c .file-pattern .ensures) (pattern-good (a .self) (a .file) (search needs) (search needs))
-
-returns-2 : tie.Need-returns-2
-returns-2 c = let a = c .before .args in pattern-bad (a .self) (a .file) (side-low 9 (a .file) (search needs))
-
-returns-3 : tie.Need-returns-3
-returns-3 c = let a = c .before .before .args in pattern-bad (a .self) (a .file) (side-high 9 (a .file) (search needs) (search needs))
-
 pub get-file-spec : {M : Type 1} → statement M
-get-file-spec = tie.close (tie.spec (search needs) returns returns-2 returns-3)
+get-file-spec =
+    tie.close
+    (tie.spec
+    (λ c κs. (c .before .if1 .left, omega (arith, c .if2 .taken)))
+    (λ c. let t = c .before in pattern-good _ _ (t .before .if1 .left) (t .if2 .taken) (c .file-pattern .ensures))
+    (λ c. pattern-bad _ _ (side-low 9 _ (c .if1 .taken)))
+    (λ c. pattern-bad _ _ (side-high 9 _ (c .before .if1 .left) (c .if2 .left))))

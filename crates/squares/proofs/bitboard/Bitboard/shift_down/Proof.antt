@@ -6,21 +6,15 @@ use borrow.Author.Needs.{needs}
 use Rattle.squares.proofs.bitboard.Bitboard.shift_down.Statement.{statement}
 use Rattle.squares.proofs.bitboard.Bitboard.shift_down.Tie as tie
 
-returns : tie.Need-returns
-returns c = shift-bad Down (c .before .args .delta) (c .before .args .self) (c .if1 .taken)
-
-returns-2 : tie.Need-returns-2
-returns-2 c = let a = c .before .before .before .before .args in down-answer (a .self) (a .delta) (c .before .before .before .if1 .left) (c .clean .ensures)
-
 pub shift-down-spec : {M : Type 1} → statement M
 shift-down-spec =
     tie.close
     (tie.spec
-    returns
+    (λ c. shift-bad Down _ _ (c .if1 .taken))
     (λ c. c .if1 .left)
     (λ c. omega (arith, c .if1 .left))
     (λ c. div-le-self 0x8040_2010_0804_0200 _)
     (λ c. omega (arith, c .before .if1 .left))
     (λ c. omega (arith, c .before .before .if1 .left))
     (search needs)
-    returns-2)
+    (λ c. down-answer _ _ (c .before .before .before .if1 .left) (c .clean .ensures)))

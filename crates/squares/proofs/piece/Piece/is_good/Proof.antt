@@ -1,25 +1,22 @@
--- Each arm holds for each of its cells.
-use mathlib.Core.Bool.{true}
+-- Each arm holds for each of its numbers.
+use mathlib.Core.Bool.{true, false}
+use Prim.Native.Nat.{zero-le}
 use native.Mathlib.Omega.{arith}
 use Rattle.squares.specs.Kinds.{goodKind, kindOf, goodPiece, goodCell}
-use Rattle.squares.proofs.Numbers.{piece-gap, piece-high, cell-bad}
+use Rattle.squares.proofs.Numbers.{piece-high, cell-bad}
 use Rattle.squares.proofs.Tests.{rows-truth}
 use Rattle.squares.proofs.piece.Piece.is_good.Statement.{statement}
 use Rattle.squares.proofs.piece.Piece.is_good.Tie as tie
 
-returns : tie.Need-returns
-returns c = cell-bad (c .before .before .args .cell) (omega arith) (piece-gap (c .before .before .args .cell) (omega arith) (omega arith))
-
-returns-2 : tie.Need-returns-2
-returns-2 c = cell-bad (c .before .before .before .args .cell) (omega arith) (piece-high (c .before .before .before .args .cell) (omega arith))
-
-returns-3 : tie.Need-returns-3
-unfolding goodCell goodPiece kindOf goodKind
-returns-3 c = rows-truth (λ k. true) goodCell 0 15 tt (c .before .args .cell) (omega arith) (omega arith)
-
-returns-4 : tie.Need-returns-4
-unfolding goodCell goodPiece kindOf goodKind
-returns-4 c = rows-truth (λ k. true) goodCell 17 14 tt (c .before .before .before .args .cell) (omega arith) (omega arith)
+high : tie.Need-returns-2
+high c = cell-bad _ (omega (arith, c .if3 .left)) (piece-high _ (c .if3 .left))
 
 pub is-good-spec : {M : Type 1} → statement M
-is-good-spec = tie.close (tie.spec returns returns-2 returns-3 returns-4)
+unfolding goodCell goodPiece kindOf goodKind
+is-good-spec =
+    tie.close
+    (tie.spec
+    (λ c. rows-truth (λ k. false) goodCell 15 2 tt _ (c .before .if1 .left) (c .if2 .taken))
+    high
+    (λ c. rows-truth (λ k. true) goodCell 0 15 tt _ zero-le (c .if1 .taken))
+    (λ c. rows-truth (λ k. true) goodCell 17 14 tt _ (c .before .if2 .left) (c .if3 .taken)))

@@ -4,30 +4,19 @@ use native.Mathlib.Omega.{arith}
 use Rattle.squares.specs.Board.{squareAt}
 use Rattle.squares.specs.Answers.{squareAnswer}
 use Rattle.squares.proofs.Steps.{side-on, side-low, side-high}
-use borrow.Author.Needs.{needs}
 use Rattle.squares.proofs.square.Square.new.Statement.{statement}
 use Rattle.squares.proofs.square.Square.new.Tie as tie
 
-returns : tie.Need-returns
-unfolding squareAnswer squareAt
-returns c = let a = c .before .before .before .before .args in rw (side-on 9 (a .file) (omega arith) (omega arith), side-on 9 (a .rank) (omega arith) (omega arith))
-
-returns-2 : tie.Need-returns-2
-unfolding squareAnswer
-returns-2 c = rw (side-low 9 (c .before .before .before .args .rank) (omega arith), and-false)
-
-returns-3 : tie.Need-returns-3
-unfolding squareAnswer
-returns-3 c = rw (side-high 9 (c .before .before .before .before .args .rank) (omega arith) (omega arith), and-false)
-
-returns-4 : tie.Need-returns-4
-unfolding squareAnswer
-returns-4 c = rw (side-low 9 (c .before .args .file) (omega arith))
-
-returns-5 : tie.Need-returns-5
-unfolding squareAnswer
-returns-5 c = rw (side-high 9 (c .before .before .args .file) (omega arith) (omega arith))
-
 pub new-spec : {M : Type 1} → statement M
+unfolding squareAnswer squareAt
 new-spec =
-    tie.close (tie.spec (search needs) (search needs) (search needs) returns returns-2 returns-3 returns-4 returns-5)
+    tie.close
+    (tie.spec
+    (λ c. omega (arith, c .before .before .if2 .taken))
+    (λ c. omega (arith, c .before .before .before .if1 .left))
+    (λ c. omega (arith, c .before .before .if2 .taken, c .if4 .taken))
+    (λ c. rw (side-on 9 _ (c .before .before .before .if1 .left) (omega (arith, c .before .before .if2 .taken)), side-on 9 _ (c .before .if3 .left) (omega (arith, c .if4 .taken))))
+    (λ c. rw (side-low 9 _ (c .if3 .taken), and-false))
+    (λ c. rw (side-high 9 _ (c .before .if3 .left) (c .if4 .left), and-false))
+    (λ c. rw (side-low 9 _ (c .if1 .taken)))
+    (λ c. rw (side-high 9 _ (c .before .if1 .left) (c .if2 .left))))

@@ -7,17 +7,12 @@ use borrow.Author.Needs.{needs}
 use Rattle.squares.proofs.square.Square.rank.Statement.{statement}
 use Rattle.squares.proofs.square.Square.rank.Tie as tie
 
-returns : tie.Need-returns
-unfolding rankAnswer rankOf
-returns c = rw (board-on 9 (c .before .before .args .square) (omega arith) (omega arith))
-
-returns-2 : tie.Need-returns-2
-unfolding rankAnswer
-returns-2 c = rw (board-low 9 (c .before .args .square) (omega arith))
-
-returns-3 : tie.Need-returns-3
-unfolding rankAnswer
-returns-3 c = rw (board-high 9 (c .before .before .args .square) (omega arith) (omega arith))
-
 pub rank-spec : {M : Type 1} → statement M
-rank-spec = tie.close (tie.spec (search needs) returns returns-2 returns-3)
+unfolding rankAnswer rankOf
+rank-spec =
+    tie.close
+    (tie.spec
+    (search needs)
+    (λ c. rw (board-on 9 _ (c .before .if1 .left) (omega (arith, c .if2 .taken))))
+    (λ c. rw (board-low 9 _ (c .if1 .taken)))
+    (λ c. rw (board-high 9 _ (c .before .if1 .left) (c .if2 .left))))
