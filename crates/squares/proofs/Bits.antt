@@ -10,7 +10,7 @@ use lib.Dec.{eqb, leb, ltb, leb·zero, leb·suc-zero, leb·suc-suc, eqb·zero-su
 use lib.Arith.{lt-one, digits-mod}
 use lib.Pow.{pow-pos, shr-shr, field, mod-mod-pow}
 use lib.Bits.{bitAnd, bitOr, bitXor, and-shr, or-shr, xor-shr, and-step, or-step, xor-step, differ, shifted-half, shifted-even}
-use borrow.Author.Tests.{le-ltb}
+use borrow.Author.Tests.{lt-ltb, le-ltb}
 use Rattle.squares.specs.Bit.{odd, bit, digit, word, reversed9}
 
 two-pos : zero < 2
@@ -113,6 +113,10 @@ bit-mod zero (suc w) a = rw (bit-zero, bit-zero, leb·suc-suc, leb·zero) (low-o
 bit-mod (suc i) (suc w) a =
     bit-suc i (a % 2 ^ suc w) ∙ ap (bit i) (ap (λ (e : ℕ). a % 2 ^ e / 2) (sym (add-one w)) ∙ field a w 1)
     ∙ bit-mod i w (a / 2) ∙ sym (ap₂ (λ (s t : Bool). s && t) (leb·suc-suc (suc i) w) (bit-suc i a))
+
+-- `x << k` at 64 bits
+pub bit-shl64 : (i k x : ℕ) → i < 64 → bit i ((x * 2 ^ k) % 2 ^ 64) ≡ leb k i && bit (i - k) x
+bit-shl64 i k x h = bit-mod i 64 (x * 2 ^ k) ∙ ap (λ (t : Bool). t && bit i (x * 2 ^ k)) (lt-ltb i 64 h) ∙ bit-shl i k x
 
 -- no digit stands past the number's length
 pub bit-high : (i w : ℕ) {a : ℕ} → a < 2 ^ w → w ≤ i → bit i a ≡ false

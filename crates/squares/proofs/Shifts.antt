@@ -14,7 +14,7 @@ use Rattle.squares.specs.Answers.{SetValue, shiftAnswer}
 use Rattle.squares.specs.declared.bitboard.Bitboard.{Bitboard}
 use Rattle.squares.specs.declared.bitboard.Direction.{Direction}
 use Rattle.squares.specs.declared.bitboard.Direction.the-variants.{Down, Up, Left, Right}
-use Rattle.squares.proofs.Bits.{bit-and, bit-or, bit-shl, bit-shr, bit-mod, bit-high, bit-of-zero}
+use Rattle.squares.proofs.Bits.{bit-and, bit-or, bit-shl64, bit-shr, bit-high, bit-of-zero}
 use Rattle.squares.proofs.Steps.{board-on, board-zero, side-on, side-low, side-high, at-on, at-off}
 use Rattle.squares.proofs.Members.{has-lo, has-hi, has-off, has-masked, cleaned, by-words, le-or-lt}
 use Rattle.squares.proofs.Tests.{all, all-at, beq-eq}
@@ -107,10 +107,6 @@ up-mask d i hd hi = beq-eq (bit i (upMask d)) (ltb (i % 9 + d) 9) (all-at (upRig
 
 pub up-mask-fits : (d : ℕ) → d ≤ 9 → 0x40_2010_0804_0201 ≤ (0x40_2010_0804_0201 * 2 ^ (9 - d)) % 2 ^ 64
 up-mask-fits d h = leb→le _ _ (all-at (λ e. leb 0x40_2010_0804_0201 ((0x40_2010_0804_0201 * 2 ^ (9 - e)) % 2 ^ 64)) 10 tt d (omega arith))
-
--- `x << k` at 64 bits
-bit-shl64 : (i k x : ℕ) → i < 64 → bit i ((x * 2 ^ k) % 2 ^ 64) ≡ leb k i && bit (i - k) x
-bit-shl64 i k x h = bit-mod i 64 (x * 2 ^ k) ∙ ap (λ (t : Bool). t && bit i (x * 2 ^ k)) (lt-ltb i 64 h) ∙ bit-shl i k x
 
 -- ---- down and up: x holds the m files after the k first, and its bits move within their files
 module _ (s : Bitboard) (k m x : ℕ) (fits : k + m ≤ 9) (reads : (i : ℕ) → i < 9 * m → has s (9 * k + 1 + i) ≡ bit i x) (d i : ℕ) (hd : d ≤ 9) (h : i < 9 * m) (hi : i < 63) where

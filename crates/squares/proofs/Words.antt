@@ -13,7 +13,7 @@ use Rattle.squares.specs.Board.{onBoard}
 use Rattle.squares.specs.Sets.{has, setOf, andS, orS, xorS, andnotS, notS, emptyS, singleS}
 use Rattle.squares.specs.Answers.{singleAnswer, containsAnswer}
 use Rattle.squares.specs.declared.bitboard.Bitboard.{Bitboard}
-use Rattle.squares.proofs.Bits.{bit-of-zero, bit-and, bit-or, bit-xor, bit-not, bit-pow}
+use Rattle.squares.proofs.Bits.{bit-of-zero, bit-and, bit-or, bit-xor, bit-not, bit-pow, bit-shl64}
 use Rattle.squares.proofs.Steps.{board-on, eqb-same}
 use Rattle.squares.proofs.Members.{has-lo, has-hi, is-set, by-words}
 
@@ -81,14 +81,19 @@ pub single-bad : (n : ℕ) → onBoard 9 n ≡ false → record { number = 2; se
 unfolding singleAnswer
 single-bad n e = rw e
 
--- ---- contains
-pub contains-lo : (s : Bitboard) (n : ℕ) → 1 ≤ n → n < 64 → record { number = 0; truth = eqb (s .lo / 2 ^ (n - 1) % 2) 1 } ≡ containsAnswer s n
-unfolding containsAnswer has bit odd
-contains-lo s n l h = rw (board-on 9 n l (omega arith), le-leb n 63 (omega arith))
+-- ---- contains: the first word is doubled, so a square's bit is its number modulo 64 in either word
+module _ (s : Bitboard) (n : ℕ) {w : ℕ} where
+  pub contains-lo : 1 ≤ n → n < 64 → w ≡ (s .lo * 2 ^ 1) % 2 ^ 64 → record { number = 0; truth = eqb (w / 2 ^ (n % 64) % 2) 1 } ≡ containsAnswer s n
+  unfolding containsAnswer has bit odd
+  contains-lo l h e =
+      rw (board-on 9 n l (omega arith), le-leb n 63 (omega arith))
+      (ap (λ (t : Bool). record { number = 0; truth = t }) (ap₂ bit (mod-eq-of-lt h) e ∙ bit-shl64 n 1 (s .lo) h ∙ ap (λ (t : Bool). t && bit (n - 1) (s .lo)) (le-leb 1 n l)))
 
-pub contains-hi : (s : Bitboard) (n : ℕ) → 64 ≤ n → n < 82 → record { number = 0; truth = eqb (s .hi / 2 ^ (n - 64) % 2) 1 } ≡ containsAnswer s n
-unfolding containsAnswer has bit odd
-contains-hi s n l h = rw (board-on 9 n (omega arith) (omega arith), lt-leb n 63 l)
+  pub contains-hi : 64 ≤ n → n < 82 → w ≡ s .hi → record { number = 0; truth = eqb (w / 2 ^ (n % 64) % 2) 1 } ≡ containsAnswer s n
+  unfolding containsAnswer has bit odd
+  contains-hi l h e =
+      let m : n % 64 ≡ n - 64 = omega arith in
+      rw (board-on 9 n (omega arith) (omega arith), lt-leb n 63 l) (ap (λ (t : Bool). record { number = 0; truth = t }) (ap₂ bit m e))
 
 pub contains-bad : (s : Bitboard) (n : ℕ) → onBoard 9 n ≡ false → record { number = 2; truth = false } ≡ containsAnswer s n
 unfolding containsAnswer

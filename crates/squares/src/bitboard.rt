@@ -78,9 +78,11 @@ impl Bitboard {
     pub fn contains(self, square: u8) -> TruthAnswer
         ensures { λ r. ⌜ truthGiven r ≡ containsAnswer self square ⌝ }
     {
+        // With the first word doubled, a square's bit is its number modulo 64 in either word: no branch is needed.
+        let word = if square < 64 { self.lo << 1 } else { self.hi };
+        let found = (word >> (square % 64)) % 2 == 1;
         match square {
-            1..=63 => TruthAnswer::Truth((self.lo >> (square - 1)) % 2 == 1),
-            64..=81 => TruthAnswer::Truth((self.hi >> (square - 64)) % 2 == 1),
+            1..=81 => TruthAnswer::Truth(found),
             _ => TruthAnswer::BadNumber,
         }
     }
