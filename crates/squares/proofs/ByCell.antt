@@ -6,9 +6,9 @@ use mathlib.Core.List.{List}
 use native.Mathlib.Omega.{arith}
 use native.Mathlib.Nat.{add-zero, add-suc, suc-add, pow-suc, mod-eq-of-lt}
 use lib.Pow.{pow-lt, pow-mono}
-use lib.ListN.{length, getD, set}
+use lib.ListN.{getD, set}
 use mathlib.Core.Logic.{⊎-elim}
-use lib.Dec.{eqb, leb, ltb}
+use lib.Dec.{eqb, leb}
 use borrow.Author.Tests.{eq-eqb, ne-eqb, lt-ltb, le-ltb, le-leb, lt-leb}
 use Rattle.squares.specs.Bit.{digit, word}
 use Rattle.squares.specs.Sets.{tab, cellAt, cellMark, setOf, family}

@@ -6,9 +6,10 @@ use mathlib.Core.List.{[], _∷_}
 use Prim.Native.Nat.{ℕ, zero, suc, _-_, _≤_, _<_}
 use native.Mathlib.Omega.{arith}
 use lib.Dec.{T, eqb, leb, leb→le}
+use lib.ListN.{List·getD-eq-default}
 use types.Run.{OneOf}
 use borrow.Author.Tests.{le-leb, lt-leb, ne-eqb, eqb-true}
-use Rattle.squares.specs.Kinds.{kinds, kindRow, goodKind, goodColour, colourOf, kindOf, goodPiece, goodCell}
+use Rattle.squares.specs.Kinds.{Kind, kinds, kindRow, goodKind, goodColour, colourOf, kindOf, goodPiece, goodCell}
 use Rattle.squares.proofs.Steps.{in-range, decided}
 use Rattle.squares.proofs.Members.{le-or-lt}
 use Rattle.squares.proofs.Tests.{allFrom, all-at, rows-truth}
@@ -26,24 +27,22 @@ unfolding goodKind
 kind-high k h = rw (le-leb 1 k (omega arith), lt-leb k 14 h)
 
 -- none of the keys of the eight letters
+neither : (a b k : ℕ) → (OneOf (a ∷ b ∷ []) k → ⊥) → eqb k a || eqb k b ≡ false
+neither a b k f = rw (ne-eqb k a (λ e. f (inl e)), ne-eqb k b (λ e. f (inr e)))
+
+abbrev lettered : ℕ → Bool
+lettered k = (eqb k 1 || eqb k 9) || (eqb k 2 || eqb k 10) || (eqb k 3 || eqb k 11) || (eqb k 4 || eqb k 12) || eqb k 5 || (eqb k 6 || eqb k 13) || (eqb k 7 || eqb k 14) || eqb k 8
+
 pub kind-none : (k : ℕ) → (OneOf (1 ∷ 9 ∷ []) k → ⊥) → (OneOf (2 ∷ 10 ∷ []) k → ⊥) → (OneOf (3 ∷ 11 ∷ []) k → ⊥) → (OneOf (4 ∷ 12 ∷ []) k → ⊥)
     → (k ≡ 5 → ⊥) → (OneOf (6 ∷ 13 ∷ []) k → ⊥) → (OneOf (7 ∷ 14 ∷ []) k → ⊥) → (k ≡ 8 → ⊥) → goodKind k ≡ false
-kind-none zero p l n s g b r q = kind-low 0 (omega arith)
-kind-none (suc zero) p l n s g b r q = absurd (p (inl refl))
-kind-none (suc (suc zero)) p l n s g b r q = absurd (l (inl refl))
-kind-none (suc (suc (suc zero))) p l n s g b r q = absurd (n (inl refl))
-kind-none (suc (suc (suc (suc zero)))) p l n s g b r q = absurd (s (inl refl))
-kind-none (suc (suc (suc (suc (suc zero))))) p l n s g b r q = absurd (g refl)
-kind-none (suc (suc (suc (suc (suc (suc zero)))))) p l n s g b r q = absurd (b (inl refl))
-kind-none (suc (suc (suc (suc (suc (suc (suc zero))))))) p l n s g b r q = absurd (r (inl refl))
-kind-none (suc (suc (suc (suc (suc (suc (suc (suc zero)))))))) p l n s g b r q = absurd (q refl)
-kind-none (suc (suc (suc (suc (suc (suc (suc (suc (suc zero))))))))) p l n s g b r q = absurd (p (inr refl))
-kind-none (suc (suc (suc (suc (suc (suc (suc (suc (suc (suc zero)))))))))) p l n s g b r q = absurd (l (inr refl))
-kind-none (suc (suc (suc (suc (suc (suc (suc (suc (suc (suc (suc zero))))))))))) p l n s g b r q = absurd (n (inr refl))
-kind-none (suc (suc (suc (suc (suc (suc (suc (suc (suc (suc (suc (suc zero)))))))))))) p l n s g b r q = absurd (s (inr refl))
-kind-none (suc (suc (suc (suc (suc (suc (suc (suc (suc (suc (suc (suc (suc zero))))))))))))) p l n s g b r q = absurd (b (inr refl))
-kind-none (suc (suc (suc (suc (suc (suc (suc (suc (suc (suc (suc (suc (suc (suc zero)))))))))))))) p l n s g b r q = absurd (r (inr refl))
-kind-none (suc (suc (suc (suc (suc (suc (suc (suc (suc (suc (suc (suc (suc (suc (suc k))))))))))))))) p l n s g b r q = kind-high (suc (suc (suc (suc (suc (suc (suc (suc (suc (suc (suc (suc (suc (suc (suc k))))))))))))))) (omega arith)
+unfolding goodKind
+kind-none k p l n s g b r q =
+    ⊎-elim
+    (λ (h : k ≤ 14).
+    rows-truth goodKind lettered 0 15 tt k (omega arith) (omega arith)
+    ∙ rw (neither 1 9 k p, neither 2 10 k l, neither 3 11 k n, neither 4 12 k s, ne-eqb k 5 g, neither 6 13 k b, neither 7 14 k r, ne-eqb k 8 q))
+    (λ (h : 14 < k). kind-high k h)
+    (le-or-lt k 14)
 
 pub colour-good : (c : ℕ) → 1 ≤ c → c < 3 → goodColour c ≡ true
 unfolding goodColour
@@ -144,21 +143,12 @@ piece-white c l h = rw (white-kind c (omega arith)) (kind-good (c - 16) (omega a
 pub row-bad : (k : ℕ) → goodKind k ≡ false → (kindRow k .unpromoted ≡ 0) × (kindRow k .promoted ≡ 0) × (kindRow k .limit ≡ 0) × (kindRow k .letter ≡ 0)
 unfolding kindRow kinds goodKind
 row-bad zero e = (refl, refl, refl, refl)
-row-bad (suc zero) e = absurd (false≢true (sym e))
-row-bad (suc (suc zero)) e = absurd (false≢true (sym e))
-row-bad (suc (suc (suc zero))) e = absurd (false≢true (sym e))
-row-bad (suc (suc (suc (suc zero)))) e = absurd (false≢true (sym e))
-row-bad (suc (suc (suc (suc (suc zero))))) e = absurd (false≢true (sym e))
-row-bad (suc (suc (suc (suc (suc (suc zero)))))) e = absurd (false≢true (sym e))
-row-bad (suc (suc (suc (suc (suc (suc (suc zero))))))) e = absurd (false≢true (sym e))
-row-bad (suc (suc (suc (suc (suc (suc (suc (suc zero)))))))) e = absurd (false≢true (sym e))
-row-bad (suc (suc (suc (suc (suc (suc (suc (suc (suc zero))))))))) e = absurd (false≢true (sym e))
-row-bad (suc (suc (suc (suc (suc (suc (suc (suc (suc (suc zero)))))))))) e = absurd (false≢true (sym e))
-row-bad (suc (suc (suc (suc (suc (suc (suc (suc (suc (suc (suc zero))))))))))) e = absurd (false≢true (sym e))
-row-bad (suc (suc (suc (suc (suc (suc (suc (suc (suc (suc (suc (suc zero)))))))))))) e = absurd (false≢true (sym e))
-row-bad (suc (suc (suc (suc (suc (suc (suc (suc (suc (suc (suc (suc (suc zero))))))))))))) e = absurd (false≢true (sym e))
-row-bad (suc (suc (suc (suc (suc (suc (suc (suc (suc (suc (suc (suc (suc (suc zero)))))))))))))) e = absurd (false≢true (sym e))
-row-bad (suc (suc (suc (suc (suc (suc (suc (suc (suc (suc (suc (suc (suc (suc (suc k))))))))))))))) e = (refl, refl, refl, refl)
+row-bad (suc k) e =
+    ⊎-elim (λ (h : suc k ≤ 14). absurd (false≢true (sym e ∙ kind-good (suc k) (omega arith) (omega arith))))
+    (λ (h : 14 < suc k).
+    let z : kindRow (suc k) ≡ kindRow 0 = List·getD-eq-default kinds _ h in
+    (ap (λ (x : Kind). x .unpromoted) z, ap (λ (x : Kind). x .promoted) z, ap (λ (x : Kind). x .limit) z, ap (λ (x : Kind). x .letter) z))
+    (le-or-lt (suc k) 14)
 
 small : (k : ℕ) → k < 15 → kindRow k .promoted ≤ 14
 unfolding kindRow kinds

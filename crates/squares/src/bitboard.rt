@@ -256,7 +256,7 @@ impl Bitboard {
         }
         let lo = self.lo & Self::MASK0;
         let hi = self.hi & Self::MASK1;
-        let by = 9 * delta as u64;
+        let by = 9 * delta;
         if delta <= 7 {
             return SetAnswer::Set(Self::clean(lo << by, (hi << by) | (lo >> (63 - by))));
         }
@@ -271,7 +271,7 @@ impl Bitboard {
         }
         let lo = self.lo & Self::MASK0;
         let hi = self.hi & Self::MASK1; // a stray bit would come down onto the board
-        let by = 9 * delta as u64;
+        let by = 9 * delta;
         if delta <= 7 {
             return SetAnswer::Set(Self::clean((lo >> by) | (hi << (63 - by)), hi >> by));
         }

@@ -1,4 +1,3 @@
-use borrow.Author.Needs.{needs}
 use native.Mathlib.Omega.{arith}
 use Rattle.squares.proofs.ByCell.{mark-low, mark-high}
 use Rattle.squares.proofs.by_cell.place.Statement.{statement}

@@ -1,5 +1,4 @@
 use mathlib.Core.Logic.{⊎-elim}
-use native.Mathlib.Omega.{arith}
 use Rattle.squares.proofs.Steps.{board-low, board-high}
 use Rattle.squares.proofs.Words.{contains-lo, contains-hi, contains-bad}
 use borrow.Author.Needs.{needs}
