@@ -1,7 +1,7 @@
 -- Lists of sets compared with one another, and with what stands on a square.
 use mathlib.Core.Path.{_≡_, refl, sym, ap, ap₂, _∙_}
 use Prim.Native.Nat.{ℕ, zero, suc, _+_, _≤_, _<_}
-use mathlib.Core.Bool.{Bool, true, false, _||_, not, Bool·beq, or-true, true≢false, false≢true}
+use mathlib.Core.Bool.{Bool, true, false, _||_, not, Bool·beq, or-true, or-false, true≢false, false≢true}
 use mathlib.Core.Logic.{⊎-elim}
 use mathlib.Core.List.{List}
 use native.Mathlib.Omega.{arith}
@@ -10,6 +10,7 @@ use lib.ListN.{length, getD}
 use lib.Seq.{ext-getD}
 use lib.Dec.{eqb}
 use borrow.Author.Tests.{eq-eqb, eqb-true}
+use borrow.Author.Count.{below-more}
 use Rattle.squares.specs.declared.bitboard.Bitboard.{Bitboard}
 use Rattle.squares.specs.Sets.{has, emptyS}
 use Rattle.squares.proofs.Laws.{both, le-or-lt}
@@ -31,6 +32,10 @@ unfolding anyBelow
 any-at f k zero h e = absurd (omega arith)
 any-at f k (suc n) h e =
     ⊎-elim (λ (p : n ≤ k). let z : n ≡ k = omega arith in rw (z, e)) (λ (p : k < n). rw (any-at f k n p e) (or-true (f n))) (le-or-lt n k)
+
+pub any-two : (f : ℕ → Bool) → f 0 ≡ false → f 1 ≡ anyBelow f 2
+unfolding anyBelow
+any-two f e = rw e (sym (or-false (f 1)))
 
 pub or-false-both : (a b : Bool) → a || b ≡ false → (a ≡ false) × (b ≡ false)
 or-false-both true b h = absurd (true≢false h)
@@ -78,6 +83,12 @@ module _ (a b : List Bitboard) (k : ℕ) (la : length a ≡ k) (lb : length b �
 
   pub equal-at : (j : ℕ) (d e : Bitboard) → j < k → sameWords (getD a j d) (getD b j e) ≡ true → getD a j emptyS ≡ getD b j emptyS
   equal-at j d e h w = getD-any a j emptyS d (omega arith) ∙ words-same (getD a j d) (getD b j e) w ∙ getD-any b j e emptyS (omega arith)
+
+  -- where all others are equal, the last decides
+  pub compared-last : (j : ℕ) (d e : Bitboard) (r : Bool) → j + 1 ≡ k → ((i : ℕ) → i < j → getD a i emptyS ≡ getD b i emptyS) → r ≡ sameWords (getD a j d) (getD b j e) → Compared a b r
+  compared-last j d e true z h w =
+      compared-all (λ i q. below-more (λ n. getD a n emptyS ≡ getD b n emptyS) j h (equal-at j d e (omega arith) (sym w)) i (omega arith))
+  compared-last j d e false z h w = compared-at j d e (omega arith) (sym w)
 
 -- ---- a set and a mark
 pub disagrees-is : (sets : List Bitboard) (mark n j : ℕ) (d : Bitboard) → j < length sets

@@ -59,14 +59,15 @@ fn unlike(set: Bitboard, n: u8, here: bool) -> bool
 fn same_players(a: [Bitboard; 2], b: [Bitboard; 2]) -> bool
     ensures { λ r. ⌜ Compared a b r ⌝ }
 {
-    for j in 0..2usize {
-        let x = a[j];
-        let y = b[j];
-        if !same(x, y) {
-            return false;
-        }
+    let black = a[0];
+    let white = a[1];
+    let other_black = b[0];
+    let other_white = b[1];
+    if same(black, other_black) {
+        same(white, other_white)
+    } else {
+        false
     }
-    true
 }
 
 fn same_kinds(a: [Bitboard; 14], b: [Bitboard; 14]) -> bool
@@ -136,13 +137,13 @@ pub(crate) fn kind_index(piece: u8) -> usize
 fn players_differ(sets: [Bitboard; 2], n: u8, mark: u8) -> bool
     ensures { λ r. ⌜ r ≡ anyBelow (disagrees sets mark n) 2 ⌝ }
 {
-    for j in 0..2usize {
-        let set = sets[j];
-        if unlike(set, n, mark as usize == j + 1) {
-            return true;
-        }
+    let black = sets[0];
+    let white = sets[1];
+    if unlike(black, n, mark == 1) {
+        true
+    } else {
+        unlike(white, n, mark == 2)
     }
-    false
 }
 
 fn kinds_differ(sets: [Bitboard; 14], n: u8, mark: u8) -> bool

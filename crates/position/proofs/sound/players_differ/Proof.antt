@@ -1,47 +1,26 @@
-use Prim.Native.Nat.{ℕ, _-_, _≤_}
 use mathlib.Core.Path.{_≡_, sym, _∙_}
-use mathlib.Core.Bool.{false}
 use native.Mathlib.Omega.{arith}
 use borrow.Author.Needs.{needs}
-use lib.ListN.{length-map}
-use Rattle.position.specs.Sound.{anyBelow, disagrees}
-use Rattle.position.proofs.Agree.{any-none, any-more, any-at, disagrees-is}
+use lib.ListN.{length, length-map}
+use Rattle.position.proofs.Agree.{any-two, any-at, disagrees-is}
 use Rattle.position.proofs.sound.players_differ.Statement.{statement}
 use Rattle.position.proofs.sound.players_differ.Tie as tie
 
-abbrev Inv-loop : tie.InvT-loop
-Inv-loop n mark sets j₀ j = (j ≤ 2) × (anyBelow (disagrees sets mark n) j ≡ false)
+two : (s : tie.Start) → length (s .args .t1) ≡ 2
+two s = omega (arith, length-map (s .args .t1) (Rattle.squares.proofs.bitboard.Bitboard.the-type .to), s .good)
 
-abbrev μ-loop : tie.MeasureT-loop
-μ-loop n mark sets j₀ j = 2 - j
+returns : tie.Need-returns
+returns c =
+    let s = c .before .before .before .before in
+    let says = disagrees-is (s .args .t1) (s .args .mark) (s .args .n) 0 _ (omega (arith, two s)) in
+    sym (any-at _ 0 2 (omega arith) (sym says ∙ sym (c .before .unlike .ensures) ∙ c .if1 .taken))
 
-loop-holds : tie.Need-loop-holds Inv-loop μ-loop
-loop-holds c = (omega arith, any-none _)
-
--- what the call says of the set at j
-module _ (c : tie.After-unlike Inv-loop μ-loop) where
-  abbrev start : tie.Start Inv-loop μ-loop
-  start = c .before .before .before .before
-
-  abbrev j : ℕ
-  j = c .before .before .before .loop .j
-
-  says : c .unlike .result ≡ disagrees (start .args .t1) (start .args .mark) (start .args .n) j
-  says =
-      c .unlike .ensures
-      ∙ disagrees-is (start .args .t1) (start .args .mark) (start .args .n) j _
-      (omega (arith, length-map (start .args .t1) (Rattle.squares.proofs.bitboard.Bitboard.the-type .to), start .good))
-
-returns : tie.Need-returns Inv-loop μ-loop
-returns c = sym (any-at _ (j (c .before)) 2 (omega arith) (sym (says (c .before)) ∙ c .if1 .taken))
-
-loop-again : tie.Need-loop-again Inv-loop μ-loop
-loop-again c = (omega arith, any-more _ _ (c .before .before .before .before .loop .inv .1) (sym (says (c .before)) ∙ c .if1 .left))
-
-returns-2 : tie.Need-returns-2 Inv-loop μ-loop
-returns-2 c = let e : c .before .loop .j ≡ 2 = omega arith in sym (rw e at (c .before .loop .inv .1))
+returns-2 : tie.Need-returns-2
+returns-2 c =
+    let s = c .before .before .before .before .before in
+    let black = disagrees-is (s .args .t1) (s .args .mark) (s .args .n) 0 _ (omega (arith, two s)) in
+    let white = disagrees-is (s .args .t1) (s .args .mark) (s .args .n) 1 _ (omega (arith, two s)) in
+    c .unlike2 .ensures ∙ white ∙ any-two _ (sym black ∙ sym (c .before .before .unlike .ensures) ∙ c .before .if1 .left)
 
 pub players-differ-spec : {M : Type 1} → statement M
-players-differ-spec =
-    tie.close
-    (tie.spec Inv-loop μ-loop loop-holds (search needs) (search needs) (search needs) (search needs) returns (search needs) (search needs) loop-again returns-2)
+players-differ-spec = tie.close (tie.spec (search needs) (search needs) (search needs) (search needs) returns returns-2)

@@ -1,53 +1,30 @@
-use Prim.Native.Nat.{ℕ, _-_, _≤_, _<_}
 use mathlib.Core.Path.{_≡_, sym, _∙_}
-use borrow.Author.Tests.{not-true, not-false}
 use native.Mathlib.Omega.{arith}
-use borrow.Author.Count.{below-more}
 use borrow.Author.Needs.{needs}
-use lib.ListN.{length, getD, length-map}
-use Rattle.squares.specs.Sets.{emptyS}
-use Rattle.position.proofs.Agree.{compared-all, compared-at, equal-at}
+use lib.ListN.{length, length-map}
+use Rattle.position.proofs.Agree.{compared-at, compared-last, equal-at}
 use Rattle.position.proofs.sound.same_players.Statement.{statement}
 use Rattle.position.proofs.sound.same_players.Tie as tie
 
-abbrev Inv-loop : tie.InvT-loop
-Inv-loop a b j₀ j = (j ≤ 2) × ((k : ℕ) → k < j → getD a k emptyS ≡ getD b k emptyS)
-
-abbrev μ-loop : tie.MeasureT-loop
-μ-loop a b j₀ j = 2 - j
-
-module _ (s : tie.Start Inv-loop μ-loop) where
+module _ (s : tie.Start) where
   first : length (s .args .t1) ≡ 2
   first = omega (arith, length-map (s .args .t1) (Rattle.squares.proofs.bitboard.Bitboard.the-type .to), s .good)
 
   second : length (s .args .t2) ≡ 2
   second = omega (arith, length-map (s .args .t2) (Rattle.squares.proofs.bitboard.Bitboard.the-type .to), s .good)
 
-loop-holds : tie.Need-loop-holds Inv-loop μ-loop
-loop-holds c = (omega arith, λ k h. absurd (omega arith))
-
-returns : tie.Need-returns Inv-loop μ-loop
+returns : tie.Need-returns
 returns c =
-    let s = c .before .before .before .before .before .before in
-    compared-at (s .args .t1) (s .args .t2) 2 (first s) (second s) (c .before .before .before .before .before .loop .j) _ _ (omega arith)
-    (sym (c .before .same .ensures) ∙ not-true _ (c .if1 .taken))
+    let s = c .before .before .before .before .before .before .before in
+    let black = equal-at (s .args .t1) (s .args .t2) 2 (first s) (second s) 0 _ _ (omega arith) (sym (c .before .before .same .ensures) ∙ c .before .if1 .taken) in
+    compared-last (s .args .t1) (s .args .t2) 2 (first s) (second s) 1 _ _ _ (omega arith) (λ i h. let z : i ≡ 0 = omega arith in rw z black) (c .same2 .ensures)
 
-loop-again : tie.Need-loop-again Inv-loop μ-loop
-loop-again c =
-    let s = c .before .before .before .before .before .before in
-    let l = c .before .before .before .before .before .loop in (
-      omega arith,
-      below-more (λ k. getD (s .args .t1) k emptyS ≡ getD (s .args .t2) k emptyS) (l .j) (l .inv .1) (equal-at (s .args .t1) (s .args .t2) 2 (first s) (second s) (l .j) _ _ (omega arith)
-          (sym (c .before .same .ensures) ∙ not-false _ (c .if1 .left))),
-    )
-
-returns-2 : tie.Need-returns-2 Inv-loop μ-loop
+returns-2 : tie.Need-returns-2
 returns-2 c =
-    let s = c .before .before in
-    let e : c .before .loop .j ≡ 2 = omega arith in
-    compared-all (s .args .t1) (s .args .t2) 2 (first s) (second s) (λ j h. c .before .loop .inv .1 j (omega arith))
+    let s = c .before .before .before .before .before .before in
+    compared-at (s .args .t1) (s .args .t2) 2 (first s) (second s) 0 _ _ (omega arith) (sym (c .before .same .ensures) ∙ c .if1 .left)
 
 pub same-players-spec : {M : Type 1} → statement M
 same-players-spec =
     tie.close
-    (tie.spec Inv-loop μ-loop loop-holds (search needs) (search needs) (search needs) (search needs) (search needs) returns (search needs) (search needs) loop-again returns-2)
+    (tie.spec (search needs) (search needs) (search needs) (search needs) (search needs) (search needs) returns returns-2)
