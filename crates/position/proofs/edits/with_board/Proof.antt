@@ -1,5 +1,5 @@
 use mathlib.Core.Path.{ap, _∙_}
-use borrow.Author.Needs.{needs}
+use native.Mathlib.Omega.{arith}
 use Rattle.squares.specs.Sets.{smallest}
 use Rattle.position.proofs.Editing.{made-full}
 use Rattle.position.proofs.edits.with_board.Statement.{statement}
@@ -15,4 +15,4 @@ returns c =
 pub with-board-spec : {M : Type 1} → statement M
 with-board-spec =
     tie.close
-    (tie.spec (search needs) (search needs) (search needs) (search needs) (search needs) (search needs) (search needs) (search needs) returns)
+    (tie.spec (λ c κs. tt) (λ c. omega arith) (λ c. omega arith) (λ c. omega arith) (λ c κs. tt) (λ c κs. tt) (λ c κs. tt) (λ c κs. tt) returns)

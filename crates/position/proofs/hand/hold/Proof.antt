@@ -4,7 +4,6 @@ use native.Mathlib.Omega.{arith}
 use borrow.Author.Tests.{eq-eqb, ne-eqb}
 use Rattle.position.specs.Moves.{held}
 use Rattle.position.proofs.Pieces.{held-small, positive}
-use borrow.Author.Needs.{needs}
 use Rattle.position.proofs.hand.hold.Statement.{statement}
 use Rattle.position.proofs.hand.hold.Tie as tie
 
@@ -28,4 +27,4 @@ unfolding held
 returns-2 c = rw (← c .before .before .hand-kind .ensures, ne-eqb _ 0 (c .before .if1 .left), ← c .index .ensures .0)
 
 pub hold-spec : {M : Type 1} → statement M
-hold-spec = tie.close (tie.spec (search needs) returns index-requires (search needs) add-out (search needs) returns-2)
+hold-spec = tie.close (tie.spec (λ c κs. tt) returns index-requires (λ c. omega arith) add-out (λ c. omega arith) returns-2)

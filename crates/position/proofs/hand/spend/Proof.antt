@@ -1,4 +1,5 @@
 use Rattle.position.specs.Moves.{spent}
+use native.Mathlib.Omega.{arith}
 use borrow.Author.Needs.{needs}
 use Rattle.position.proofs.hand.spend.Statement.{statement}
 use Rattle.position.proofs.hand.spend.Tie as tie
@@ -11,4 +12,4 @@ unfolding spent
 returns c = rw (c .index .ensures .0, c .before .kind-of .ensures)
 
 pub spend-spec : {M : Type 1} → statement M
-spend-spec = tie.close (tie.spec (search needs) (search needs) (search needs) sub-out (search needs) returns)
+spend-spec = tie.close (tie.spec (λ c κs. tt) (search needs) (λ c. omega arith) sub-out (λ c. omega arith) returns)

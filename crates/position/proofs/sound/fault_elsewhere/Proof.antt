@@ -1,7 +1,7 @@
 use mathlib.Core.Path.{_≡_, sym, ap, _∙_}
 use mathlib.Core.Bool.{true, false, not}
 use borrow.Author.Tests.{eq-eqb, ne-eqb, not-true, not-false}
-use borrow.Author.Needs.{needs}
+use native.Mathlib.Omega.{arith}
 use Rattle.squares.specs.declared.bitboard.Bitboard.{Bitboard}
 use Rattle.squares.specs.Kinds.{goodColour}
 use Rattle.position.specs.Sound.{kingWrong, anyBelow, overLimit}
@@ -89,4 +89,7 @@ returns-6 c =
     ∙ sym (elsewhere-tidy (s .args .t1) (s .pre) ∙ rw (no-black (a .before .before .before .before .before .before), no-white (a .before .before), no-over a, good, ne-eqb (s .args .t1 .ply) 0 (c .before .before .if5 .left)))
 
 pub fault-elsewhere-spec : {M : Type 1} → statement M
-fault-elsewhere-spec = tie.close (tie.spec (search needs) (search needs) (search needs) (search needs) (search needs) returns (search needs) (search needs) returns-2 (search needs) returns-3 (search needs) returns-4 returns-5 (search needs) returns-6)
+fault-elsewhere-spec =
+    tie.close
+    (tie.spec (λ c. omega arith) (λ c. omega arith) (λ c. omega arith) (λ c κs. tt) (λ c κs. tt) returns (λ c κs. tt) (λ c κs. tt) returns-2
+    (λ c κs. tt) returns-3 (λ c κs. tt) returns-4 returns-5 (λ c κs. tt) returns-6)

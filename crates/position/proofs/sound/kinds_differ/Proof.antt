@@ -2,7 +2,6 @@ use Prim.Native.Nat.{ℕ, _-_, _≤_}
 use mathlib.Core.Path.{_≡_, sym, _∙_}
 use mathlib.Core.Bool.{false}
 use native.Mathlib.Omega.{arith}
-use borrow.Author.Needs.{needs}
 use lib.ListN.{length-map}
 use Rattle.position.specs.Sound.{anyBelow, disagrees}
 use Rattle.position.proofs.Agree.{any-none, any-more, any-at, disagrees-is}
@@ -44,4 +43,5 @@ returns-2 c = let e : c .before .loop .j ≡ 14 = omega arith in sym (rw e at (c
 pub kinds-differ-spec : {M : Type 1} → statement M
 kinds-differ-spec =
     tie.close
-    (tie.spec Inv-loop μ-loop loop-holds (search needs) (search needs) (search needs) (search needs) returns (search needs) (search needs) loop-again returns-2)
+    (tie.spec Inv-loop μ-loop loop-holds (λ c. record { fits = omega arith }) (λ c. omega arith) (λ c. record { fits = omega arith }) (λ c κs. tt)
+    returns (λ c. record { fits = omega arith }) (λ c. omega arith) loop-again returns-2)

@@ -2,7 +2,6 @@
 use Prim.Native.Nat.{ℕ, _+_, _-_, _≤_}
 use mathlib.Core.Path.{_≡_, refl, ap, _∙_}
 use native.Mathlib.Omega.{arith}
-use borrow.Author.Needs.{needs}
 use Rattle.squares.proofs.Laws.{Filled, filled-none, filled-more, filled-all}
 use Rattle.position.proofs.Marking.{sideTo, side-none, side-more, bothOf, both-of, marks-made}
 use Rattle.position.proofs.sound.marks_of.Statement.{statement}
@@ -42,6 +41,7 @@ returns c =
 pub marks-of-spec : {M : Type 1} → statement M
 marks-of-spec =
     tie.close
-    (tie.spec Inv-loop μ-loop (search needs) (search needs) loop-holds (search needs) (search needs) (search needs) (search needs) (search needs) (search needs)
-    (search needs) (search needs) (search needs) (search needs) (search needs) (search needs) (search needs) loop-again (search needs) (search needs) (search needs)
-    (search needs) returns)
+    (tie.spec Inv-loop μ-loop (λ c κs. tt) (λ c κs. tt) loop-holds (λ c. record { fits = omega arith }) (λ c. record { fits = omega arith })
+    (λ c. omega arith) (λ c. record { fits = omega arith }) (λ c. record { fits = omega arith }) (λ c. omega arith) (λ c κs. tt) (λ c κs. tt)
+    (λ c κs. tt) (λ c. record { fits = omega arith }) (λ c. omega arith) (λ c. record { fits = omega arith }) (λ c. omega arith) loop-again
+    (λ c. omega arith) (λ c. omega arith) (λ c. omega arith) (λ c κs. tt) returns)

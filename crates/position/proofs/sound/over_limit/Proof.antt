@@ -3,7 +3,6 @@ use mathlib.Core.Path.{_≡_, sym, ap, ap₂, _∙_}
 use mathlib.Core.Bool.{true, false}
 use native.Mathlib.Omega.{arith}
 use lib.ListN.{getD}
-use borrow.Author.Needs.{needs}
 use Rattle.squares.specs.Sets.{emptyS, orS, size}
 use Rattle.squares.proofs.Laws.{getD-any}
 use Rattle.position.specs.Sound.{anyBelow}
@@ -69,6 +68,7 @@ returns-2 c = let e : c .before .loop .j ≡ 7 = omega arith in sym (rw e at (c 
 pub over-limit-spec : {M : Type 1} → statement M
 over-limit-spec =
     tie.close
-    (tie.spec Inv-loop μ-loop loop-holds (search needs) (search needs) promoted-index-requires (search needs) (search needs) (search needs) (search needs) (search needs)
-    (search needs) (search needs) (search needs) (search needs) (search needs) add-held (search needs) (search needs) (search needs) add-if1 returns (search needs)
-    (search needs) loop-again returns-2)
+    (tie.spec Inv-loop μ-loop loop-holds (λ c. record { fits = omega arith }) (λ c. omega arith) promoted-index-requires
+    (λ c. record { fits = omega arith }) (λ c. omega arith) (λ c κs. tt) (λ c κs. tt) (λ c κs. tt) (λ c. omega arith) (λ c κs. tt)
+    (λ c. record { fits = omega arith }) (λ c. omega arith) (λ c κs. tt) add-held (λ c. record { fits = omega arith })
+    (λ c. record { fits = omega arith }) (λ c κs. tt) add-if1 returns (λ c. record { fits = omega arith }) (λ c. omega arith) loop-again returns-2)

@@ -3,7 +3,6 @@ use mathlib.Core.Path.{_≡_, sym, _∙_}
 use borrow.Author.Tests.{not-true, not-false}
 use native.Mathlib.Omega.{arith}
 use borrow.Author.Count.{below-more}
-use borrow.Author.Needs.{needs}
 use lib.ListN.{length, getD, length-map}
 use Rattle.squares.specs.Sets.{emptyS}
 use Rattle.position.proofs.Agree.{compared-all, compared-at, equal-at}
@@ -50,4 +49,5 @@ returns-2 c =
 pub same-kinds-spec : {M : Type 1} → statement M
 same-kinds-spec =
     tie.close
-    (tie.spec Inv-loop μ-loop loop-holds (search needs) (search needs) (search needs) (search needs) (search needs) returns (search needs) (search needs) loop-again returns-2)
+    (tie.spec Inv-loop μ-loop loop-holds (λ c. record { fits = omega arith }) (λ c. omega arith) (λ c. record { fits = omega arith })
+    (λ c. omega arith) (λ c κs. tt) returns (λ c. record { fits = omega arith }) (λ c. omega arith) loop-again returns-2)

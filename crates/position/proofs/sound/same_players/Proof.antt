@@ -1,6 +1,5 @@
 use mathlib.Core.Path.{_≡_, sym, _∙_}
 use native.Mathlib.Omega.{arith}
-use borrow.Author.Needs.{needs}
 use lib.ListN.{length, length-map}
 use Rattle.position.proofs.Agree.{compared-at, compared-last, equal-at}
 use Rattle.position.proofs.sound.same_players.Statement.{statement}
@@ -27,4 +26,4 @@ returns-2 c =
 pub same-players-spec : {M : Type 1} → statement M
 same-players-spec =
     tie.close
-    (tie.spec (search needs) (search needs) (search needs) (search needs) (search needs) (search needs) returns returns-2)
+    (tie.spec (λ c. omega arith) (λ c. omega arith) (λ c. omega arith) (λ c. omega arith) (λ c κs. tt) (λ c κs. tt) returns returns-2)

@@ -23,16 +23,5 @@ returns-2 c = rw (ne-eqb _ 0 (c .if1 .left))
 pub store-spec : {M : Type 1} → statement M
 store-spec =
     tie.close
-    (tie.spec
-    (search needs)
-    (search needs)
-    (search needs)
-    (search needs)
-    (search needs)
-    (search needs)
-    (search needs)
-    (search needs)
-    sub-q
-    add-q
-    returns
-    returns-2)
+    (tie.spec (search needs) (search needs) (search needs) (search needs) (λ c. omega arith) (λ c. omega arith) (λ c κs. tt) (λ c κs. tt) sub-q add-q
+    returns returns-2)

@@ -61,24 +61,7 @@ returns-2 c = let j = c .before .before in kind-same _ _ _ _ (turned j) (kinds-s
 pub toggle-spec : {M : Type 1} → statement M
 toggle-spec =
     tie.close
-    (tie.spec
-    (search needs)
-    (search needs)
-    sub-at
-    (search needs)
-    (search needs)
-    element-copy-out-set
-    (search needs)
-    (search needs)
-    element-set-from-q
-    (search needs)
-    (search needs)
-    sub-at-2
-    (search needs)
-    (search needs)
-    element-copy-out-set-2
-    (search needs)
-    (search needs)
-    element-set-from-q-2
-    returns
+    (tie.spec (search needs) (λ c κs. tt) sub-at (λ c. record { fits = omega arith }) (λ c. record { fits = omega arith }) element-copy-out-set
+    (λ c κs. tt) (λ c. record { fits = omega arith }) element-set-from-q (λ c κs. tt) (λ c κs. tt) sub-at-2 (λ c. record { fits = omega arith })
+    (λ c. record { fits = omega arith }) element-copy-out-set-2 (λ c κs. tt) (λ c. record { fits = omega arith }) element-set-from-q-2 returns
     returns-2)

@@ -4,7 +4,6 @@ use native.Mathlib.Omega.{arith}
 use lib.ListN.{length, length-map}
 use lib.Dec.{eqb}
 use borrow.Author.Tests.{not-false}
-use borrow.Author.Needs.{needs}
 use Rattle.squares.specs.declared.bitboard.Bitboard.{Bitboard}
 use Rattle.squares.specs.Kinds.{goodPiece}
 use Rattle.position.specs.Answers.{toldQuery, pieceSetAnswer}
@@ -49,4 +48,7 @@ returns-2 c =
     (c .and .ensures ∙ piece-set (s .args .t1) (two s) (fourteen s) (done-sound _ _ _ q (e .if1 .left)) (s .args .piece) _ _ _ _ (good e) (i .0) (i .1) (j .0) (j .1))
 
 pub piece-bitboard-spec : {M : Type 1} → statement M
-piece-bitboard-spec = tie.close (tie.spec (search needs) (search needs) (search needs) returns color-index-requires (search needs) (search needs) kind-index-requires (search needs) (search needs) (search needs) returns-2)
+piece-bitboard-spec =
+    tie.close
+    (tie.spec (λ c κs. tt) (λ c κs. tt) (λ c κs. tt) returns color-index-requires (λ c. record { fits = omega arith }) (λ c. omega arith)
+    kind-index-requires (λ c. record { fits = omega arith }) (λ c. omega arith) (λ c κs. tt) returns-2)
