@@ -1,14 +1,12 @@
 // Positions: the two to begin with, by value, and what is asked of a lent one, which stays as it is.
 ghost use mathlib.Core.Path.{_≡_};
 ghost use Rattle.position.specs.Machine.{emptyPosition, startPosition};
-ghost use Rattle.position.specs.Moves.{numbersOf};
 ghost use Rattle.position.specs.Answers.{soundnessTold, pieceAtAnswer, colourSetAnswer, kindSetAnswer, pieceSetAnswer, occupiedAnswer, vacantAnswer};
 ghost use Rattle.position.specs.Answers.{sideAnswer, plyAnswer, handAnswer, kingAnswer, lastAnswer};
 ghost use Rattle.firmware.specs.Shown.{pieceNumber, pieceShown, kingNumber, kingShown, lastNumbers, lastShown};
 use crate::answers::CLast;
 use position::KingSquare;
 use position::LastMove;
-use position::Move;
 use position::MoveNumbers;
 use position::NumberAnswer;
 use position::PlyAnswer;
@@ -85,35 +83,8 @@ fn last_numbers(last: LastMove) -> MoveNumbers
     ensures { λ r. ⌜ r ≡ lastNumbers last ⌝ }
 {
     match last {
-        LastMove::Nothing => MoveNumbers {
-            tag: 0,
-            a: 0,
-            b: 0,
-            promote: 0,
-        },
-        LastMove::Was(m) => move_numbers(m),
-    }
-}
-
-fn move_numbers(m: Move) -> MoveNumbers
-    ensures { λ r. ⌜ r ≡ numbersOf m ⌝ }
-{
-    match m {
-        Move::Normal { from, to, promote } => {
-            let promote = if promote { 1 } else { 0 };
-            MoveNumbers {
-                tag: 1,
-                a: from,
-                b: to,
-                promote,
-            }
-        }
-        Move::Drop { piece, to } => MoveNumbers {
-            tag: 2,
-            a: piece,
-            b: to,
-            promote: 0,
-        },
+        LastMove::Nothing => MoveNumbers::none(),
+        LastMove::Was(m) => MoveNumbers::of(m),
     }
 }
 

@@ -51,7 +51,7 @@ full m =
       kinds = family kindOf 14 (m .cells);
     }
 
--- no last move
+-- "The last move is none", as it is stored
 abbrev pub noMove : MoveNumbers
 noMove = record { tag = 0; a = 0; b = 0; promote = 0 }
 

@@ -1,4 +1,8 @@
 // Moves, as calls speak of them and as a position stores them.
+ghost use mathlib.Core.Path.{_≡_};
+ghost use Rattle.position.specs.Machine.{noMove};
+ghost use Rattle.position.specs.Moves.{numbersOf};
+
 pub enum Move {
     Normal { from: u8, to: u8, promote: bool },
     Drop { piece: u8, to: u8 },
@@ -17,4 +21,39 @@ pub struct MoveNumbers {
     pub a: u8,
     pub b: u8,
     pub promote: u8,
+}
+
+impl MoveNumbers {
+    pub fn none() -> Self
+        ensures { λ r. ⌜ r ≡ noMove ⌝ }
+    {
+        Self {
+            tag: 0,
+            a: 0,
+            b: 0,
+            promote: 0,
+        }
+    }
+
+    pub fn of(m: Move) -> Self
+        ensures { λ r. ⌜ r ≡ numbersOf m ⌝ }
+    {
+        match m {
+            Move::Normal { from, to, promote } => {
+                let promote = if promote { 1 } else { 0 };
+                Self {
+                    tag: 1,
+                    a: from,
+                    b: to,
+                    promote,
+                }
+            }
+            Move::Drop { piece, to } => Self {
+                tag: 2,
+                a: piece,
+                b: to,
+                promote: 0,
+            },
+        }
+    }
 }

@@ -5,6 +5,7 @@ ghost use lib.Dec.{eqb};
 ghost use Rattle.position.specs.Moves.{arriving};
 ghost use Rattle.position.specs.Plans.{refusedBy, normalPlan, dropPlan};
 use crate::cells::promoted;
+use crate::mv::Move;
 use crate::mv::MoveNumbers;
 
 // `left` leaves `from`, `taken` leaves `to`, `piece` comes to `to`. A number but 0: nothing is done.
@@ -23,12 +24,7 @@ pub(crate) fn refused(number: u8) -> Plan
     ensures { λ r. ⌜ r ≡ refusedBy number ⌝ }
 {
     let hands = [0u8; 14];
-    let last = MoveNumbers {
-        tag: 0,
-        a: 0,
-        b: 0,
-        promote: 0,
-    };
+    let last = MoveNumbers::none();
     Plan {
         number,
         from: 1,
@@ -48,12 +44,6 @@ fn arrival(promote: bool, c: u8) -> u8
     if promote { promoted(c) } else { c }
 }
 
-fn flag(promote: bool) -> u8
-    ensures { λ r. ⌜ r ≡ cond promote 1 0 ⌝ }
-{
-    if promote { 1 } else { 0 }
-}
-
 // What stands on `to`, where `t` stood, once `from` is empty.
 fn taken_on(from: u8, to: u8, t: u8) -> u8
     ensures { λ r. ⌜ r ≡ cond (eqb from to) 0 t ⌝ }
@@ -65,12 +55,7 @@ fn taken_on(from: u8, to: u8, t: u8) -> u8
 pub(crate) fn normal_plan(from: u8, to: u8, promote: bool, c: u8, t: u8, hands: [u8; 14]) -> Plan
     ensures { λ r. ⌜ r ≡ normalPlan from to promote c t hands ⌝ }
 {
-    let last = MoveNumbers {
-        tag: 1,
-        a: from,
-        b: to,
-        promote: flag(promote),
-    };
+    let last = MoveNumbers::of(Move::Normal { from, to, promote });
     Plan {
         number: 0,
         from,
@@ -87,12 +72,7 @@ pub(crate) fn normal_plan(from: u8, to: u8, promote: bool, c: u8, t: u8, hands: 
 pub(crate) fn drop_plan(piece: u8, to: u8, c: u8, hands: [u8; 14]) -> Plan
     ensures { λ r. ⌜ r ≡ dropPlan piece to c hands ⌝ }
 {
-    let last = MoveNumbers {
-        tag: 2,
-        a: piece,
-        b: to,
-        promote: 0,
-    };
+    let last = MoveNumbers::of(Move::Drop { piece, to });
     Plan {
         number: 0,
         from: to,

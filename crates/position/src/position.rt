@@ -113,12 +113,7 @@ impl Position {
         let hands = [0u8; 14];
         let players = [none; 2];
         let kinds = [none; 14];
-        let last = MoveNumbers {
-            tag: 0,
-            a: 0,
-            b: 0,
-            promote: 0,
-        };
+        let last = MoveNumbers::none();
         Self {
             board,
             hands,
@@ -195,12 +190,7 @@ impl Position {
             none,
             none,
         ];
-        let last = MoveNumbers {
-            tag: 0,
-            a: 0,
-            b: 0,
-            promote: 0,
-        };
+        let last = MoveNumbers::none();
         Self {
             board,
             hands,

@@ -10,4 +10,4 @@ returns-2 c = cc
 
 pub last-numbers-spec : {M : Type 1} → statement M
 last-numbers-spec =
-    tie.close (tie.spec (search needs) (search needs) (search needs) returns returns-2)
+    tie.close (tie.spec (search needs) (search needs) (search needs) (search needs) returns returns-2)

@@ -1,5 +1,4 @@
 -- The words of the sets are computed.
-use borrow.Author.Needs.{needs}
 use Rattle.squares.specs.Bit.{word, digit}
 use Rattle.squares.specs.Kinds.{colourOf, kindOf}
 use Rattle.squares.specs.Sets.{setOf, emptyS, firstOf}
@@ -9,7 +8,7 @@ use Rattle.position.proofs.position.Position.empty.Tie as tie
 
 returns : tie.Need-returns
 unfolding emptyPosition full family tab kingSquare firstOf setOf emptyS word digit colourOf kindOf
-returns c = rw (c .empty .ensures)
+returns c = rw (c .before .empty .ensures, c .none .ensures)
 
 pub empty-spec : {M : Type 1} → statement M
-empty-spec = tie.close (tie.spec (search needs) returns)
+empty-spec = tie.close (tie.spec (λ c κs. tt) (λ c κs. tt) returns)

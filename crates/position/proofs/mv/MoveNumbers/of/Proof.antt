@@ -1,7 +1,7 @@
 use borrow.Author.Needs.{needs}
 use Rattle.position.specs.Moves.{numbersOf}
-use Rattle.firmware.proofs.queries.move_numbers.Statement.{statement}
-use Rattle.firmware.proofs.queries.move_numbers.Tie as tie
+use Rattle.position.proofs.mv.MoveNumbers.of.Statement.{statement}
+use Rattle.position.proofs.mv.MoveNumbers.of.Tie as tie
 
 returns : tie.Need-returns
 unfolding numbersOf
@@ -15,5 +15,5 @@ returns-3 : tie.Need-returns-3
 unfolding numbersOf
 returns-3 c = rw (c .before .m2 .given .1)
 
-pub move-numbers-spec : {M : Type 1} → statement M
-move-numbers-spec = tie.close (tie.spec (search needs) (search needs) returns returns-2 returns-3)
+pub of-spec : {M : Type 1} → statement M
+of-spec = tie.close (tie.spec (search needs) (search needs) returns returns-2 returns-3)
