@@ -30,6 +30,8 @@ pub(crate) fn index(side: u8, k: u8) -> usize
     ((side - 1) * 7 + (k - 1)) as usize
 }
 
+// How many of `piece` are in hand. Of a kind above 7, which no hand holds and `index` is not asked for, it is what stands at
+// that place: such a drop is refused before the count is looked at.
 pub(crate) fn in_hand(hands: [u8; 14], side: u8, piece: u8) -> u8
     requires { ⌜ (1 ≤ side) × (side ≤ 2) × (1 ≤ kindOf piece) ⌝ }
     ensures { λ r. ⌜ r ≡ getD hands (handAt side (kindOf piece)) 0 ⌝ }

@@ -17,6 +17,7 @@ use crate::cells::is_color;
 use crate::cells::is_piece;
 use crate::cells::on_board;
 use crate::cells::standing;
+use crate::hand::index;
 use crate::mv::LastMove;
 use crate::mv::Move;
 use crate::mv::MoveNumbers;
@@ -189,7 +190,7 @@ impl Position {
         if told.number != 0 {
             return NumberAnswer { told, value: 0 };
         }
-        let at = (color - 1) as usize * 7 + (kind - 1) as usize;
+        let at = index(color, kind);
         let value = self.hands[at];
         NumberAnswer { told, value }
     }
