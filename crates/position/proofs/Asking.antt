@@ -11,10 +11,10 @@ use lib.Dec.{eqb, leb}
 use borrow.Author.Tests.{eq-eqb, ne-eqb, leb-true, not-true, not-false}
 use Rattle.squares.specs.declared.bitboard.Bitboard.{Bitboard}
 use Rattle.squares.specs.Board.{onBoard}
-use Rattle.squares.specs.Kinds.{goodColour, goodPiece, goodCell, colourOf, kindOf}
+use Rattle.squares.specs.Kinds.{goodColour, goodKind, goodPiece, goodCell, colourOf, kindOf}
 use Rattle.squares.specs.Sets.{setOf, emptyS, andS, orS, notS}
-use Rattle.squares.proofs.Laws.{both, le-or-lt, eqb-same, board-range, setOf-cong, and-rules, or-rules, not-rule, cell-piece, piece-low-bound, colour-range, black-kind, white-kind, black-colour, white-colour, empty-colour}
-use Rattle.position.specs.Machine.{cellAt, kingSquare}
+use Rattle.squares.proofs.Laws.{both, le-or-lt, eqb-same, board-range, setOf-cong, and-rules, or-rules, not-rule, cell-piece, piece-low-bound, colour-range, kind-range, black-kind, white-kind, black-colour, white-colour, empty-colour}
+use Rattle.position.specs.Machine.{cellAt, family, kingSquare}
 use Rattle.position.specs.Sound.{anyBelow, strayIn, kingWrong, firstFault, faultElsewhere, sound}
 use Rattle.position.specs.Inner.{Tidy}
 use Rattle.position.specs.Answers.{firstFact, toldBy, queryFacts, toldQuery, answered, stood, pieceAtAnswer, setAnswer, occupiedAnswer, sideAnswer, plyAnswer, handAt, goodHandKind, handAnswer, kingAt, kingAnswer, lastMove, lastAnswer}
@@ -149,6 +149,36 @@ vacant-set p =
     twice : (t : Bool) → not (not t) ≡ t
     twice true = refl
     twice false = refl
+
+-- ---- the query of the set of a mark: the number told, the mark's range, and the sets of a sound position
+pub record AskedMark (p : Position) (mark : ℕ → ℕ) (count : ℕ) (sets : List Bitboard) (k : ℕ) (good : Bool) (t : Told) : Type 0 where
+  pub told : t ≡ toldQuery (not good) p
+  pub range : good ≡ true → (1 ≤ k) × (k ≤ count)
+  pub made : sound p ≡ true → sets ≡ family mark count (p .board)
+
+module _ (p : Position) (k : ℕ) (t : Told) (test : Bool) (two : length (p .players) ≡ 2) (fourteen : length (p .kinds) ≡ 14) (e : t ≡ toldQuery (not test) p) where
+  pub asked-colour : test ≡ goodColour k → AskedMark p colourOf 2 (p .players) k (goodColour k) t
+  asked-colour z =
+      record { told = e ∙ ap (λ (b : Bool). toldQuery (not b) p) z; range = colour-range k; made = λ s. sound-tidy p two fourteen s .players }
+
+  pub asked-kind : test ≡ goodKind k → AskedMark p kindOf 14 (p .kinds) k (goodKind k) t
+  asked-kind z =
+      record { told = e ∙ ap (λ (b : Bool). toldQuery (not b) p) z; range = kind-range k; made = λ s. sound-tidy p two fourteen s .kinds }
+
+module _ (p : Position) (mark : ℕ → ℕ) (count : ℕ) (sets : List Bitboard) (k : ℕ) (good : Bool) (t : Told) (a : AskedMark p mark count sets k good t) where
+  pub mark-refused : (s : Bitboard) → s ≡ emptyS → (t .number ≡ 0 → ⊥) → record { told = t; set = s } ≡ setAnswer (not good) (λ x. eqb (mark x) k) p
+  mark-refused s z h = rw z (set-refused p (not good) t (a .told) (λ x. eqb (mark x) k) h)
+
+  pub mark-range : t .number ≡ 0 → (1 ≤ k) × (k ≤ count)
+  mark-range h = a .range (not-false _ (done-good p _ t (a .told) h))
+
+  pub mark-done : (d : Bitboard) → t .number ≡ 0 → record { told = t; set = getD sets (k - 1) d } ≡ setAnswer (not good) (λ x. eqb (mark x) k) p
+  mark-done d h =
+      let r = mark-range h in
+      let z : 1 + (k - 1) ≡ k = omega arith in
+      set-done p (not good) t (a .told) (λ x. eqb (mark x) k) (getD sets (k - 1) d) h
+      (ap (λ (l : List Bitboard). getD l (k - 1) d) (a .made (done-sound p _ t (a .told) h)) ∙ family-at mark count (p .board) (k - 1) d (omega arith)
+      ∙ ap (λ (i : ℕ). setOf (λ n. eqb (mark (cellAt (p .board) n)) i)) z)
 
 -- ---- the king squares of a sound position
 pub king-squares : (p : Position) → sound p ≡ true → (kingSquare (p .board) 8 ≡ p .bking) × (kingSquare (p .board) 24 ≡ p .wking)
