@@ -13,10 +13,9 @@ use borrow.Author.Tests.{eq-eqb, eqb-true}
 use borrow.Author.Count.{below-more}
 use Rattle.squares.specs.declared.bitboard.Bitboard.{Bitboard}
 use Rattle.squares.specs.Sets.{has, emptyS}
-use Rattle.squares.proofs.Laws.{both, le-or-lt}
+use Rattle.squares.proofs.Laws.{both, le-or-lt, getD-any}
 use Rattle.position.specs.Sound.{anyBelow, disagrees}
 use Rattle.position.specs.Inner.{sameWords, Compared}
-use Rattle.squares.proofs.Laws.{getD-any}
 
 -- ---- some number below k
 pub any-none : (f : ℕ → Bool) → anyBelow f 0 ≡ false
@@ -57,6 +56,17 @@ pub any-same : (f g : ℕ → Bool) (n : ℕ) → ((k : ℕ) → k < n → f k �
 unfolding anyBelow
 any-same f g zero h = refl
 any-same f g (suc n) h = ap₂ (λ (a b : Bool). a || b) (h n (omega arith)) (any-same f g n (λ k l. h k (omega arith)))
+
+-- ---- equal truth values
+pub beq-false : (a b : Bool) → not (Bool·beq a b) ≡ false → a ≡ b
+beq-false true true h = refl
+beq-false true false h = h
+beq-false false true h = sym h
+beq-false false false h = refl
+
+pub beq-same : (t : Bool) → not (Bool·beq t t) ≡ false
+beq-same true = refl
+beq-same false = refl
 
 -- ---- equal words
 pub words-same : (a b : Bitboard) → sameWords a b ≡ true → a ≡ b

@@ -2,7 +2,7 @@
 use mathlib.Core.Path.{_≡_, refl, sym, ap, ap₂, _∙_}
 use Prim.Native.Nat.{ℕ, _+_, _-_, _*_, _≤_, _<_}
 use mathlib.Core.Bool.{Bool, true, false, not, _&&_, _||_, cond}
-use mathlib.Core.Logic.{_⊎_, inl, inr, ⊎-elim}
+use mathlib.Core.Logic.{⊎-elim}
 use mathlib.Core.List.{List}
 use native.Mathlib.Omega.{arith}
 use native.Mathlib.Decide.{ℕ-discrete}
@@ -13,7 +13,7 @@ use Rattle.squares.specs.declared.bitboard.Bitboard.{Bitboard}
 use Rattle.squares.specs.Board.{onBoard}
 use Rattle.squares.specs.Kinds.{goodColour, goodKind, goodPiece, goodCell, colourOf, kindOf}
 use Rattle.squares.specs.Sets.{setOf, emptyS, andS, orS, notS}
-use Rattle.squares.proofs.Laws.{both, le-or-lt, eqb-same, board-range, setOf-cong, and-rules, or-rules, not-rule, cell-piece, piece-low-bound, colour-range, kind-range, black-kind, white-kind, black-colour, white-colour, empty-colour}
+use Rattle.squares.proofs.Laws.{both, le-or-lt, board-range, setOf-cong, or-rules, not-rule, cell-piece, piece-low-bound, colour-range, kind-range, black-colour, white-colour, empty-colour}
 use Rattle.position.specs.Machine.{cellAt, family, kingSquare}
 use Rattle.position.specs.Sound.{anyBelow, strayIn, kingWrong, firstFault, faultElsewhere, sound}
 use Rattle.position.specs.Inner.{Tidy}
@@ -27,8 +27,8 @@ use Rattle.position.specs.declared.answers.KingSquare.{KingSquare}
 use Rattle.position.specs.declared.answers.KingSquare.the-variants as King
 use Rattle.position.specs.declared.mv.LastMove.{LastMove}
 use Rattle.position.specs.declared.mv.LastMove.the-variants as Last
-use Rattle.position.proofs.Tidiness.{family-at, sound-tidy}
-use Rattle.position.proofs.InOrder.{king-is, king-square}
+use Rattle.position.proofs.Tidiness.{family-at, sound-tidy, player-set, piece-of}
+use Rattle.position.proofs.Kings.{king-is, king-square}
 use Rattle.position.proofs.Agree.{or-false-both}
 
 -- ---- the number that comes before the value
@@ -64,43 +64,7 @@ module _ (p : Position) (bad : Bool) (t : Told) (e : t ≡ toldQuery bad p) wher
   unfolding setAnswer
   set-done test s h q = rw (done h, ← e, q)
 
--- ---- a piece by its colour and its kind
-piece-by : (x v : ℕ) → goodCell x ≡ true → goodPiece v ≡ true → eqb (colourOf x) (colourOf v) && eqb (kindOf x) (kindOf v) ≡ eqb x v
-piece-by x v g h = ⊎-elim black white (le-or-lt v 16)
-  where
-    cell : Dec (x ≡ 0) → (x ≡ 0) ⊎ (goodPiece x ≡ true)
-    cell (yes e) = inl e
-    cell (no d) = inr (cell-piece x g d)
-
-    black : v ≤ 16 → eqb (colourOf x) (colourOf v) && eqb (kindOf x) (kindOf v) ≡ eqb x v
-    black l = rw (black-colour v (piece-low-bound v h) l, black-kind v l) (⊎-elim none (λ q. ⊎-elim same other (le-or-lt x 16)) (cell (ℕ-discrete x 0)))
-      where
-        none : x ≡ 0 → eqb (colourOf x) 1 && eqb (kindOf x) v ≡ eqb x v
-        none e = let z : colourOf x ≡ 0 = ap colourOf e ∙ empty-colour in rw z (sym (ne-eqb x v (λ q. let b = piece-low-bound v h in omega arith)))
-
-        same : x ≤ 16 → eqb (colourOf x) 1 && eqb (kindOf x) v ≡ eqb x v
-        same m = go (ℕ-discrete x 0)
-          where
-            go : Dec (x ≡ 0) → eqb (colourOf x) 1 && eqb (kindOf x) v ≡ eqb x v
-            go (yes e) = none e
-            go (no d) = rw (black-colour x (piece-low-bound x (cell-piece x g d)) m, black-kind x m)
-
-        other : 16 < x → eqb (colourOf x) 1 && eqb (kindOf x) v ≡ eqb x v
-        other m = rw (white-colour x m) (sym (ne-eqb x v (λ q. omega arith)))
-
-    white : 16 < v → eqb (colourOf x) (colourOf v) && eqb (kindOf x) (kindOf v) ≡ eqb x v
-    white l = rw (white-colour v l, white-kind v l) (⊎-elim low high (le-or-lt x 16))
-      where
-        low : x ≤ 16 → eqb (colourOf x) 2 && eqb (kindOf x) (v - 16) ≡ eqb x v
-        low m = go (ℕ-discrete x 0)
-          where
-            go : Dec (x ≡ 0) → eqb (colourOf x) 2 && eqb (kindOf x) (v - 16) ≡ eqb x v
-            go (yes e) = let z : colourOf x ≡ 0 = ap colourOf e ∙ empty-colour in rw z (sym (ne-eqb x v (λ q. omega arith)))
-            go (no d) = rw (black-colour x (piece-low-bound x (cell-piece x g d)) m) (sym (ne-eqb x v (λ q. omega arith)))
-
-        high : 16 < x → eqb (colourOf x) 2 && eqb (kindOf x) (v - 16) ≡ eqb x v
-        high m = rw (white-colour x m, white-kind x m) (eqb-same (x - 16) (v - 16) x v (λ q. omega arith) (λ q. omega arith))
-
+-- ---- a cell with a colour is not empty
 colour-none : (x : ℕ) → goodCell x ≡ true → eqb (colourOf x) 1 || eqb (colourOf x) 2 ≡ not (eqb x 0)
 colour-none x g = go (ℕ-discrete x 0)
   where
@@ -115,31 +79,16 @@ module _ (p : Position) (two : length (p .players) ≡ 2) (fourteen : length (p 
   tidy : Tidy p
   tidy = sound-tidy p two fourteen s
 
-  good : (n : ℕ) → 1 ≤ n → n ≤ 81 → goodCell (cellAt (p .board) n) ≡ true
-  good = tidy .cells
-
-  pub player-set : (j : ℕ) (d : Bitboard) → j < 2 → getD (p .players) j d ≡ setOf (λ n. eqb (colourOf (cellAt (p .board) n)) (1 + j))
-  player-set j d h = ap (λ (l : List Bitboard). getD l j d) (tidy .players) ∙ family-at colourOf 2 (p .board) j d h
-
-  pub kind-set : (j : ℕ) (d : Bitboard) → j < 14 → getD (p .kinds) j d ≡ setOf (λ n. eqb (kindOf (cellAt (p .board) n)) (1 + j))
-  kind-set j d h = ap (λ (l : List Bitboard). getD l j d) (tidy .kinds) ∙ family-at kindOf 14 (p .board) j d h
-
   pub piece-set : (v i j : ℕ) (d e : Bitboard) → goodPiece v ≡ true → i + 1 ≡ colourOf v → i < 2 → j + 1 ≡ kindOf v → j < 14
       → andS (getD (p .players) i d) (getD (p .kinds) j e) ≡ setOf (λ n. eqb (cellAt (p .board) n) v)
-  piece-set v i j d e g ci hi kj hj =
-      let a : 1 + i ≡ colourOf v = omega arith in
-      let b : 1 + j ≡ kindOf v = omega arith in
-      ap₂ andS (player-set i d hi) (kind-set j e hj)
-      ∙ and-rules (λ n. eqb (colourOf (cellAt (p .board) n)) (1 + i)) (λ n. eqb (kindOf (cellAt (p .board) n)) (1 + j))
-      ∙ setOf-cong (λ n. eqb (colourOf (cellAt (p .board) n)) (1 + i) && eqb (kindOf (cellAt (p .board) n)) (1 + j)) (λ n. eqb (cellAt (p .board) n) v)
-      (λ n o. let r = board-range 9 n o in rw (a, b) (piece-by (cellAt (p .board) n) v (good n (r .0) (r .1)) g))
+  piece-set = piece-of p tidy
 
   pub occupied-set : (d e : Bitboard) → orS (getD (p .players) 0 d) (getD (p .players) 1 e) ≡ setOf (λ n. not (eqb (cellAt (p .board) n) 0))
   occupied-set d e =
-      ap₂ orS (player-set 0 d (omega arith)) (player-set 1 e (omega arith))
+      ap₂ orS (player-set p tidy 0 d (omega arith)) (player-set p tidy 1 e (omega arith))
       ∙ or-rules (λ n. eqb (colourOf (cellAt (p .board) n)) 1) (λ n. eqb (colourOf (cellAt (p .board) n)) 2)
       ∙ setOf-cong (λ n. eqb (colourOf (cellAt (p .board) n)) 1 || eqb (colourOf (cellAt (p .board) n)) 2) (λ n. not (eqb (cellAt (p .board) n) 0))
-      (λ n o. let r = board-range 9 n o in colour-none (cellAt (p .board) n) (good n (r .0) (r .1)))
+      (λ n o. let r = board-range 9 n o in colour-none (cellAt (p .board) n) (tidy .cells n (r .0) (r .1)))
 
 pub vacant-set : (p : Position) → notS (setOf (λ n. not (eqb (cellAt (p .board) n) 0))) ≡ setOf (λ n. eqb (cellAt (p .board) n) 0)
 vacant-set p =

@@ -11,8 +11,8 @@ use Rattle.position.specs.Machine.{Machine, full, cellAt, kingSquare}
 use Rattle.position.specs.Steps.{carried}
 use Rattle.position.specs.declared.mv.MoveNumbers.{MoveNumbers}
 use Rattle.position.proofs.Stores.{move-family}
-use Rattle.position.proofs.InOrder.{king-square, InOrder}
-use Rattle.position.proofs.Kings.{king-moves}
+use Rattle.position.proofs.Kings.{king-square, king-moves}
+use Rattle.position.proofs.InOrder.{InOrder}
 
 -- the position of a machine: its sets and king squares stay those of the cells
 pub carry-full : (m : Machine) (from to v : ℕ) (hands : List ℕ) (last : MoveNumbers) → InOrder m → length (m .cells) ≡ 81

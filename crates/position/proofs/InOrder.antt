@@ -1,63 +1,21 @@
 -- A sound position is the position of a machine in order, and the position of a machine in order is sound.
-use mathlib.Core.Path.{_≡_, refl, sym, _∙_}
-use Prim.Native.Nat.{ℕ, zero, suc, _+_, _-_, _≤_, _<_}
-use mathlib.Core.Bool.{Bool, true, false, not, Bool·beq, cond}
-use mathlib.Core.List.{List}
-use native.Mathlib.Omega.{arith}
-use native.Mathlib.Decide.{ℕ-discrete}
-use lib.ListN.{length, getD}
-use lib.Dec.{eqb, ltb}
-use lib.Arith.{lt-of-le-ne}
-use borrow.Author.Tests.{eqb-false, eq-eqb, ne-eqb, ltb-false, le-ltb, not-false, not-true}
+use mathlib.Core.Path.{_≡_, refl, _∙_}
+use Prim.Native.Nat.{ℕ, _+_, _≤_, _<_}
+use mathlib.Core.Bool.{true, false, not}
+use lib.ListN.{getD}
+use lib.Dec.{eqb}
+use borrow.Author.Tests.{eqb-false, ne-eqb, ltb-false, le-ltb, not-false, not-true}
 use Rattle.squares.specs.Board.{onBoard}
 use Rattle.squares.specs.Kinds.{kindRow, goodColour, goodCell}
-use Rattle.squares.specs.Sets.{firstOf}
 use Rattle.squares.proofs.Laws.{both, board-range, board-on}
 use Rattle.position.specs.Machine.{Machine, machine, full, cellAt, kingSquare}
 pub use Rattle.position.specs.Machine.{Sized}
-use Rattle.position.specs.Sound.{anyBelow, strayIn, kingWrong, standing, overLimit, goodLast, firstFault, faultElsewhere, sound}
+use Rattle.position.specs.Sound.{anyBelow, strayIn, standing, overLimit, goodLast, firstFault, faultElsewhere, sound}
 use Rattle.position.specs.Inner.{Tidy}
 use Rattle.position.specs.declared.position.Position.{Position}
 use Rattle.position.proofs.Agree.{or-false-both, any-each, any-all}
-use Rattle.position.proofs.Tidiness.{beq-false, beq-same, sound-tidy, tidy-sound, tidy-strays}
-
--- ---- the king `king` stands on q and nowhere else; on no square where q is 0
-pub record KingIs (cells : List ℕ) (king q : ℕ) : Type 0 where
-  pub high : q ≤ 81
-  pub only : (n : ℕ) → 1 ≤ n → n ≤ 81 → eqb (cellAt cells n) king ≡ eqb q n
-
-pub king-is : (cells : List ℕ) (king q : ℕ) → kingWrong cells king q ≡ false → KingIs cells king q
-unfolding kingWrong
-king-is cells king q h =
-    let o = or-false-both (ltb 81 q) _ h in
-    record {
-      high = ltb-false 81 q (o .0);
-      only = λ n lo hi.
-          let x : (n - 1) + 1 ≡ n = omega arith in
-          rw x at (beq-false (eqb (cellAt cells (n - 1 + 1)) king) (eqb q (n - 1 + 1)) (any-each (λ j. not (Bool·beq (eqb (cellAt cells (j + 1)) king) (eqb q (j + 1)))) 81 (n - 1) (o .1) (omega arith)));
-    }
-
-king-right : (cells : List ℕ) (king q : ℕ) → KingIs cells king q → kingWrong cells king q ≡ false
-unfolding kingWrong
-king-right cells king q k =
-    rw (le-ltb 81 q (k .high))
-    (any-all (λ j. not (Bool·beq (eqb (cellAt cells (j + 1)) king) (eqb q (j + 1)))) 81 (λ j small. rw (k .only (j + 1) (omega arith) (omega arith)) (beq-same (eqb q (j + 1)))))
-
--- so it is the first such square
-first-is : (f : ℕ → Bool) (q s k : ℕ) → ((n : ℕ) → s ≤ n → n < s + k → f n ≡ eqb q n) → (q < s → q ≡ 0) → q < s + k → firstOf f s k ≡ q
-unfolding firstOf
-first-is f q s zero h low high = sym (low (omega arith))
-first-is f q s (suc k) h low high =
-    by (ℕ-discrete q s) (h s (omega arith) (omega arith)) (λ d. first-is f q (suc s) k (λ n a b. h n (omega arith) (omega arith)) d (omega arith))
-  where
-    by : Dec (q ≡ s) → f s ≡ eqb q s → ((q < suc s → q ≡ 0) → firstOf f (suc s) k ≡ q) → cond (f s) s (firstOf f (suc s) k) ≡ q
-    by (yes e) g r = rw (g, eq-eqb q s e) (sym e)
-    by (no d) g r = rw (g, ne-eqb q s d) (r (λ l. low (lt-of-le-ne (omega arith) d)))
-
-pub king-square : (cells : List ℕ) (king q : ℕ) → KingIs cells king q → kingSquare cells king ≡ q
-unfolding kingSquare
-king-square cells king q k =
-    first-is (λ n. eqb (cellAt cells n) king) q 1 81 (λ n a b. k .only n a (omega arith)) (λ l. omega arith) (omega (arith, k .high))
+use Rattle.position.proofs.Kings.{KingIs, king-is, king-right, king-square}
+use Rattle.position.proofs.Tidiness.{sound-tidy, tidy-sound, tidy-strays}
 
 -- ---- a machine in order
 pub record InOrder (m : Machine) : Type 0 where

@@ -1,20 +1,61 @@
--- The square of a king when a cell is stored, and after a whole move.
+-- The square of a king: what a right one says, what it is when a cell is stored, and after a whole move.
 use mathlib.Core.Path.{_≡_, refl, sym, ap, _∙_}
 use mathlib.Core.Logic.{_⊎_, inl, inr, ⊎-elim}
-use Prim.Native.Nat.{ℕ, _-_, _≤_}
-use mathlib.Core.Bool.{Bool, true, false, _||_, cond}
+use Prim.Native.Nat.{ℕ, zero, suc, _+_, _-_, _≤_, _<_}
+use mathlib.Core.Bool.{Bool, true, false, _||_, not, Bool·beq, cond}
 use mathlib.Core.List.{List}
 use native.Mathlib.Omega.{arith}
 use native.Mathlib.Decide.{ℕ-discrete}
 use lib.ListN.{length, set, length-set}
-use lib.Dec.{eqb}
-use borrow.Author.Tests.{eqb-true, eq-eqb, ne-eqb}
-use Rattle.position.specs.Machine.{cellAt}
+use lib.Dec.{eqb, ltb}
+use lib.Arith.{lt-of-le-ne}
+use borrow.Author.Tests.{eqb-true, eq-eqb, ne-eqb, ltb-false, le-ltb}
+use Rattle.squares.specs.Sets.{firstOf}
+use Rattle.position.specs.Machine.{cellAt, kingSquare}
+use Rattle.position.specs.Sound.{kingWrong}
 use Rattle.position.specs.Steps.{kingAfter}
 use Rattle.position.proofs.Stores.{cell-same, cell-other}
-use Rattle.position.proofs.InOrder.{KingIs}
+use Rattle.position.proofs.Agree.{or-false-both, any-each, any-all, beq-false, beq-same}
 
--- the cell of n becomes v: a king that is put there stood there before, or nowhere
+-- ---- the king `king` stands on q and nowhere else; on no square where q is 0
+pub record KingIs (cells : List ℕ) (king q : ℕ) : Type 0 where
+  pub high : q ≤ 81
+  pub only : (n : ℕ) → 1 ≤ n → n ≤ 81 → eqb (cellAt cells n) king ≡ eqb q n
+
+pub king-is : (cells : List ℕ) (king q : ℕ) → kingWrong cells king q ≡ false → KingIs cells king q
+unfolding kingWrong
+king-is cells king q h =
+    let o = or-false-both (ltb 81 q) _ h in
+    record {
+      high = ltb-false 81 q (o .0);
+      only = λ n lo hi.
+          let x : (n - 1) + 1 ≡ n = omega arith in
+          rw x at (beq-false (eqb (cellAt cells (n - 1 + 1)) king) (eqb q (n - 1 + 1)) (any-each (λ j. not (Bool·beq (eqb (cellAt cells (j + 1)) king) (eqb q (j + 1)))) 81 (n - 1) (o .1) (omega arith)));
+    }
+
+pub king-right : (cells : List ℕ) (king q : ℕ) → KingIs cells king q → kingWrong cells king q ≡ false
+unfolding kingWrong
+king-right cells king q k =
+    rw (le-ltb 81 q (k .high))
+    (any-all (λ j. not (Bool·beq (eqb (cellAt cells (j + 1)) king) (eqb q (j + 1)))) 81 (λ j small. rw (k .only (j + 1) (omega arith) (omega arith)) (beq-same (eqb q (j + 1)))))
+
+-- so it is the first such square
+first-is : (f : ℕ → Bool) (q s k : ℕ) → ((n : ℕ) → s ≤ n → n < s + k → f n ≡ eqb q n) → (q < s → q ≡ 0) → q < s + k → firstOf f s k ≡ q
+unfolding firstOf
+first-is f q s zero h low high = sym (low (omega arith))
+first-is f q s (suc k) h low high =
+    by (ℕ-discrete q s) (h s (omega arith) (omega arith)) (λ d. first-is f q (suc s) k (λ n a b. h n (omega arith) (omega arith)) d (omega arith))
+  where
+    by : Dec (q ≡ s) → f s ≡ eqb q s → ((q < suc s → q ≡ 0) → firstOf f (suc s) k ≡ q) → cond (f s) s (firstOf f (suc s) k) ≡ q
+    by (yes e) g r = rw (g, eq-eqb q s e) (sym e)
+    by (no d) g r = rw (g, ne-eqb q s d) (r (λ l. low (lt-of-le-ne (omega arith) d)))
+
+pub king-square : (cells : List ℕ) (king q : ℕ) → KingIs cells king q → kingSquare cells king ≡ q
+unfolding kingSquare
+king-square cells king q k =
+    first-is (λ n. eqb (cellAt cells n) king) q 1 81 (λ n a b. k .only n a (omega arith)) (λ l. omega arith) (omega (arith, k .high))
+
+-- ---- the cell of n becomes v: a king that is put there stood there before, or nowhere
 module _ (cells : List ℕ) (king q n v : ℕ) (size : length cells ≡ 81) (lo : 1 ≤ n) (hi : n ≤ 81) (k : KingIs cells king q)
     (alone : v ≡ king → (q ≡ 0) ⊎ (q ≡ n)) where
   abbrev cells' : List ℕ

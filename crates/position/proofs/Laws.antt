@@ -1,6 +1,7 @@
 -- What a crate above may cite: a sound position is the position of its machine, make_move and the step on it, whole games,
 -- and the edits.
-pub use Rattle.position.proofs.InOrder.{KingIs, InOrder, Sized, sound-full, sound-order, order-sound}
+pub use Rattle.position.proofs.Kings.{KingIs}
+pub use Rattle.position.proofs.InOrder.{InOrder, Sized, sound-full, sound-order, order-sound}
 pub use Rattle.position.proofs.Ladder.{CanMove, CanDrop, normal-passes, drop-passes}
 pub use Rattle.position.proofs.Exact.{Given, None, given-first, first-given, none-first, first-none}
 pub use Rattle.position.proofs.Stepping.{step-plays}

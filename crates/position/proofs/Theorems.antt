@@ -25,7 +25,8 @@ use Rattle.position.specs.declared.mv.LastMove.the-variants as Last
 use Rattle.position.specs.declared.answers.Answer.{Answer}
 use Rattle.position.proofs.Agree.{any-each}
 use Rattle.position.proofs.Tidiness.{family-length}
-use Rattle.position.proofs.InOrder.{king-is, InOrder, Sized, sound-full, sound-order, order-sound}
+use Rattle.position.proofs.Kings.{king-is}
+use Rattle.position.proofs.InOrder.{InOrder, Sized, sound-full, sound-order, order-sound}
 use Rattle.position.proofs.Ladder.{never-one, normal-passes, drop-passes}
 use Rattle.position.proofs.Kept.{itself, moved-order, dropped-order}
 use Rattle.position.proofs.Exact.{Given, None, nonzero, given-first, first-given, none-first, first-none}

@@ -1,20 +1,20 @@
 -- A position is sound exactly where its sets are those of its good cells and no fault lies elsewhere; kings and counts can
 -- then be read off the sets.
 use mathlib.Core.Path.{_≡_, refl, sym, ap, ap₂, _∙_}
-use Prim.Native.Nat.{ℕ, zero, suc, _+_, _-_, _*_, _/_, _%_, _≤_, _<_}
-use mathlib.Core.Bool.{Bool, true, false, _&&_, _||_, not, cond, Bool·beq, and-false, false≢true}
+use Prim.Native.Nat.{ℕ, _+_, _-_, _*_, _/_, _%_, _≤_, _<_}
+use mathlib.Core.Bool.{Bool, true, false, _&&_, _||_, not, Bool·beq, and-false, false≢true}
 use mathlib.Core.Logic.{⊎-elim}
 use mathlib.Core.List.{List}
 use native.Mathlib.Omega.{arith}
 use native.Mathlib.Decide.{ℕ-discrete}
 use lib.ListN.{length, getD}
 use lib.Dec.{eqb, leb, ltb, ltb→lt}
-use borrow.Author.Tests.{eq-eqb, ne-eqb, eqb-true, le-leb, lt-leb, leb-true, ltb-false, le-ltb, lt-ltb, not-true, not-false}
+use borrow.Author.Tests.{eq-eqb, ne-eqb, eqb-true, le-leb, lt-leb, leb-true, le-ltb, lt-ltb, not-true, not-false}
 use Rattle.squares.specs.declared.bitboard.Bitboard.{Bitboard}
 use Rattle.squares.specs.Board.{onBoard}
-use Rattle.squares.specs.Kinds.{kinds, kindRow, goodCell, goodColour, colourOf, kindOf}
-use Rattle.squares.specs.Sets.{has, setOf, clean, emptyS, andS, orS, countOf, size, smallest, withoutS}
-use Rattle.squares.proofs.Laws.{both, decided, eqb-same, all-at, allFrom, rows-truth, le-or-lt, board-on, board-range, has-setOf, setOf-cong, clean-setOf, clean-has, and-rules, or-rules, First, smallest-is, smallest-at, smallest-none, size-without, size-none, has-withoutS, has-off, size-rule, count-same, cell-piece, piece-kind, piece-low-bound, black-kind, white-kind, black-colour, white-colour, empty-colour}
+use Rattle.squares.specs.Kinds.{kinds, kindRow, goodKind, goodPiece, goodCell, goodColour, colourOf, kindOf}
+use Rattle.squares.specs.Sets.{has, setOf, clean, emptyS, andS, orS, size, smallest, withoutS}
+use Rattle.squares.proofs.Laws.{both, decided, all-at, allFrom, rows-truth, le-or-lt, board-on, board-range, has-setOf, setOf-cong, clean-setOf, clean-has, and-rules, or-rules, First, smallest-is, smallest-at, smallest-none, size-without, size-none, has-withoutS, has-off, size-rule, count-same, cell-piece, piece-kind, black-kind}
 use Rattle.position.specs.Machine.{cellAt, family}
 use Rattle.position.specs.Sound.{anyBelow, disagrees, faultyAt, readingAt, firstFault, strayIn, kingWrong, standing, overLimit, goodLast, faultElsewhere, sound}
 use Rattle.position.specs.Inner.{MarksOf, Compared, Tidy, TidyTold, kingOff, promotedAt, setsSize, overBySets}
@@ -22,18 +22,10 @@ use Rattle.position.specs.Answers.{firstFact, toldBy, queryFacts, toldQu
 use Rattle.position.specs.declared.sound.Marks.{Marks}
 use Rattle.position.specs.declared.position.Position.{Position}
 use Rattle.squares.proofs.Laws.{length-tab, getD-tab, is-tab}
-use Rattle.position.proofs.Agree.{any-all, any-each, any-same, or-false-both}
+use Rattle.position.proofs.Agree.{any-all, any-each, any-same, or-false-both, beq-false, beq-same}
+use Rattle.position.proofs.Pieces.{piece-by}
+use Rattle.position.proofs.Kings.{KingIs, king-is, king-right}
 use Rattle.position.proofs.Reading.{reading-range, reading-all, first-none, first-all}
-
-pub beq-false : (a b : Bool) → not (Bool·beq a b) ≡ false → a ≡ b
-beq-false true true h = refl
-beq-false true false h = h
-beq-false false true h = sym h
-beq-false false false h = refl
-
-pub beq-same : (t : Bool) → not (Bool·beq t t) ≡ false
-beq-same true = refl
-beq-same false = refl
 
 -- ---- the sets of the cells
 module _ (mark : ℕ → ℕ) (count : ℕ) (cells : List ℕ) where
@@ -140,34 +132,11 @@ module _ (cells : List ℕ) (king q : ℕ) where
   off-board : (n : ℕ) → (1 ≤ n → n ≤ 81 → has kings n ≡ false) → has kings n ≡ false
   off-board n h = ⊎-elim (λ (o : onBoard 9 n ≡ true). let b = board-range 9 n o in h (b .0) (b .1)) (has-off kings n) (decided (onBoard 9 n))
 
-  -- it stands on q and nowhere else; nowhere where q is 0
-  Only : Type 0
-  Only = (q ≤ 81) × ((n : ℕ) → 1 ≤ n → n ≤ 81 → eqb (cellAt cells n) king ≡ eqb q n)
+  none-there : KingIs cells king q → q ≡ 0 → (m : ℕ) → has kings m ≡ false
+  none-there o z m = off-board m (λ lo hi. has-king m lo hi ∙ o .only m lo hi ∙ ne-eqb q m (λ e. omega arith))
 
-  right-only : kingWrong cells king q ≡ false → Only
-  unfolding kingWrong Only
-  right-only h =
-      let o = or-false-both (ltb 81 q) _ h in (
-        ltb-false 81 q (o .0),
-        λ n lo hi.
-            let x : (n - 1) + 1 ≡ n = omega arith in
-            let e : eqb (cellAt cells (n - 1 + 1)) king ≡ eqb q (n - 1 + 1) =
-            beq-false _ _ (any-each (λ j. not (Bool·beq (eqb (cellAt cells (j + 1)) king) (eqb q (j + 1)))) 81 (n - 1) (o .1) (omega arith)) in
-            rw x at e,
-      )
-
-  only-right : Only → kingWrong cells king q ≡ false
-  unfolding kingWrong Only
-  only-right o =
-      rw (le-ltb 81 q (o .0))
-      (any-all (λ j. not (Bool·beq (eqb (cellAt cells (j + 1)) king) (eqb q (j + 1)))) 81 (λ j h. rw (o .1 (j + 1) (omega arith) (omega arith)) (beq-same (eqb q (j + 1)))))
-
-  none-there : Only → q ≡ 0 → (m : ℕ) → has kings m ≡ false
-  unfolding Only
-  none-there o z m = off-board m (λ lo hi. has-king m lo hi ∙ o .1 m lo hi ∙ ne-eqb q m (λ e. omega arith))
-
-  only-off : Only → kingOff kings q ≡ false
-  unfolding kingOff Only
+  only-off : KingIs cells king q → kingOff kings q ≡ false
+  unfolding kingOff
   only-off o = ⊎-elim some none (le-or-lt 1 q)
     where
       none : q < 1 → not (eqb (smallest kings) q && leb (size kings) 1) ≡ false
@@ -177,36 +146,36 @@ module _ (cells : List ℕ) (king q : ℕ) where
 
       some : 1 ≤ q → not (eqb (smallest kings) q && leb (size kings) 1) ≡ false
       some l =
-          let here : has kings q ≡ true = has-king q l (o .0) ∙ o .1 q l (o .0) ∙ eq-eqb q q refl in
+          let here : has kings q ≡ true = has-king q l (o .high) ∙ o .only q l (o .high) ∙ eq-eqb q q refl in
           let f : First (has kings) 1 81 q =
           record {
             from = l;
             to = omega arith;
             passes = here;
-            least = λ m a b. has-king m a (omega arith) ∙ o .1 m a (omega arith) ∙ ne-eqb q m (λ e. omega arith);
+            least = λ m a b. has-king m a (omega arith) ∙ o .only m a (omega arith) ∙ ne-eqb q m (λ e. omega arith);
           } in
-          let w = size-without kings q l (o .0) here in
+          let w = size-without kings q l (o .high) here in
           let z : size (withoutS q kings) ≡ 0 = size-none (withoutS q kings) (λ m. has-withoutS q kings m ∙ gone m (ℕ-discrete m q)) in
           let s : size kings ≡ 1 = omega arith in
           rw (smallest-at kings q f, eq-eqb q q refl, s)
         where
           gone : (m : ℕ) → Dec (m ≡ q) → has kings m && not (eqb m q) ≡ false
           gone m (yes e) = ap (λ (t : Bool). has kings m && not t) (eq-eqb m q e) ∙ and-false (has kings m)
-          gone m (no d) = ap (λ (t : Bool). t && not (eqb m q)) (off-board m (λ lo hi. has-king m lo hi ∙ o .1 m lo hi ∙ ne-eqb q m (λ e. d (sym e))))
+          gone m (no d) = ap (λ (t : Bool). t && not (eqb m q)) (off-board m (λ lo hi. has-king m lo hi ∙ o .only m lo hi ∙ ne-eqb q m (λ e. d (sym e))))
 
-  off-only : kingOff kings q ≡ false → Only
-  unfolding kingOff Only
+  off-only : kingOff kings q ≡ false → KingIs cells king q
+  unfolding kingOff
   off-only h =
       let b = both (eqb (smallest kings) q) (leb (size kings) 1) (not-false _ h) in
       let at : smallest kings ≡ q = eqb-true (smallest kings) q (b .0) in
       let few : size kings ≤ 1 = leb-true (size kings) 1 (b .1) in
       ⊎-elim (some at few) (none at) (smallest-is kings)
     where
-      none : smallest kings ≡ q → (smallest kings ≡ 0) × ((m : ℕ) → has kings m ≡ false) → (q ≤ 81) × ((n : ℕ) → 1 ≤ n → n ≤ 81 → eqb (cellAt cells n) king ≡ eqb q n)
-      none at z = (omega (arith, z .0), λ n lo hi. sym (has-king n lo hi) ∙ z .1 n ∙ sym (ne-eqb q n (λ e. omega (arith, z .0))))
+      none : smallest kings ≡ q → (smallest kings ≡ 0) × ((m : ℕ) → has kings m ≡ false) → KingIs cells king q
+      none at z = record { high = omega (arith, z .0); only = λ n lo hi. sym (has-king n lo hi) ∙ z .1 n ∙ sym (ne-eqb q n (λ e. omega (arith, z .0))) }
 
-      some : smallest kings ≡ q → size kings ≤ 1 → First (has kings) 1 81 (smallest kings) → (q ≤ 81) × ((n : ℕ) → 1 ≤ n → n ≤ 81 → eqb (cellAt cells n) king ≡ eqb q n)
-      some at few f = (omega (arith, f .to), λ n lo hi. sym (has-king n lo hi) ∙ same n lo hi (ℕ-discrete n q))
+      some : smallest kings ≡ q → size kings ≤ 1 → First (has kings) 1 81 (smallest kings) → KingIs cells king q
+      some at few f = record { high = omega (arith, f .to); only = λ n lo hi. sym (has-king n lo hi) ∙ same n lo hi (ℕ-discrete n q) }
         where
           here : has kings q ≡ true
           here = ap (has kings) (sym at) ∙ f .passes
@@ -222,46 +191,36 @@ module _ (cells : List ℕ) (king q : ℕ) where
                   absurd (omega arith)
 
   pub king-law : kingOff kings q ≡ kingWrong cells king q
-  king-law = ⊎-elim wrong (λ e. only-off (right-only e) ∙ sym e) (decided (kingWrong cells king q))
+  king-law = ⊎-elim wrong (λ e. only-off (king-is cells king q e) ∙ sym e) (decided (kingWrong cells king q))
     where
       wrong : kingWrong cells king q ≡ true → kingOff kings q ≡ kingWrong cells king q
-      wrong e = ⊎-elim (λ t. t ∙ sym e) (λ f. absurd (false≢true (sym (only-right (off-only f)) ∙ e))) (decided (kingOff kings q))
+      wrong e = ⊎-elim (λ t. t ∙ sym e) (λ f. absurd (false≢true (sym (king-right cells king q (off-only f)) ∙ e))) (decided (kingOff kings q))
 
--- ---- the kings of a tidy position, by its sets
-own-king : (c : ℕ) → goodCell c ≡ true → (eqb (colourOf c) 1 && eqb (kindOf c) 8 ≡ eqb c 8) × (eqb (colourOf c) 2 && eqb (kindOf c) 8 ≡ eqb c 24)
-own-king c g = go (ℕ-discrete c 0)
-  where
-    go : Dec (c ≡ 0) → (eqb (colourOf c) 1 && eqb (kindOf c) 8 ≡ eqb c 8) × (eqb (colourOf c) 2 && eqb (kindOf c) 8 ≡ eqb c 24)
-    go (yes e) =
-        let z : colourOf c ≡ 0 = ap colourOf e ∙ empty-colour in
-        (rw (z, e), rw (z, e))
-    go (no d) =
-        let p = cell-piece c g d in
-        let l = piece-low-bound c p in
-        let k = piece-kind c p in
-        ⊎-elim
-        (λ (h : c ≤ 16).
-        (rw (black-colour c l h, black-kind c h), rw (black-colour c l h) (sym (ne-eqb c 24 (λ e. omega arith)))))
-        (λ (h : 16 < c).
-        (rw (white-colour c h) (sym (ne-eqb c 8 (λ e. omega arith))), rw (white-colour c h, white-kind c h) (eqb-same (c - 16) 8 c 24 (λ e. omega arith) (λ e. omega arith))))
-        (le-or-lt c 16)
+-- ---- the sets of a tidy position, by what stands on the squares
+module _ (p : Position) (t : Tidy p) where
+  pub player-set : (j : ℕ) (d : Bitboard) → j < 2 → getD (p .players) j d ≡ setOf (λ n. eqb (colourOf (cellAt (p .board) n)) (1 + j))
+  player-set j d h = ap (λ (l : List Bitboard). getD l j d) (t .players) ∙ family-at colourOf 2 (p .board) j d h
 
-module _ (p : Position) (t : Tidy p) (d e : Bitboard) where
-  pub black-kings : andS (getD (p .players) 0 d) (getD (p .kinds) 7 e) ≡ setOf (λ n. eqb (cellAt (p .board) n) 8)
-  black-kings =
-      ap₂ andS (ap (λ (l : List Bitboard). getD l 0 d) (t .players) ∙ family-at colourOf 2 (p .board) 0 d (omega arith))
-      (ap (λ (l : List Bitboard). getD l 7 e) (t .kinds) ∙ family-at kindOf 14 (p .board) 7 e (omega arith))
-      ∙ and-rules (λ n. eqb (colourOf (cellAt (p .board) n)) 1) (λ n. eqb (kindOf (cellAt (p .board) n)) 8)
-      ∙ setOf-cong (λ n. eqb (colourOf (cellAt (p .board) n)) 1 && eqb (kindOf (cellAt (p .board) n)) 8) (λ n. eqb (cellAt (p .board) n) 8)
-      (λ n o. let b = board-range 9 n o in own-king (cellAt (p .board) n) (t .cells n (b .0) (b .1)) .0)
+  pub kind-set : (j : ℕ) (d : Bitboard) → j < 14 → getD (p .kinds) j d ≡ setOf (λ n. eqb (kindOf (cellAt (p .board) n)) (1 + j))
+  kind-set j d h = ap (λ (l : List Bitboard). getD l j d) (t .kinds) ∙ family-at kindOf 14 (p .board) j d h
 
-  pub white-kings : andS (getD (p .players) 1 d) (getD (p .kinds) 7 e) ≡ setOf (λ n. eqb (cellAt (p .board) n) 24)
-  white-kings =
-      ap₂ andS (ap (λ (l : List Bitboard). getD l 1 d) (t .players) ∙ family-at colourOf 2 (p .board) 1 d (omega arith))
-      (ap (λ (l : List Bitboard). getD l 7 e) (t .kinds) ∙ family-at kindOf 14 (p .board) 7 e (omega arith))
-      ∙ and-rules (λ n. eqb (colourOf (cellAt (p .board) n)) 2) (λ n. eqb (kindOf (cellAt (p .board) n)) 8)
-      ∙ setOf-cong (λ n. eqb (colourOf (cellAt (p .board) n)) 2 && eqb (kindOf (cellAt (p .board) n)) 8) (λ n. eqb (cellAt (p .board) n) 24)
-      (λ n o. let b = board-range 9 n o in own-king (cellAt (p .board) n) (t .cells n (b .0) (b .1)) .1)
+  pub piece-of : (v i j : ℕ) (d e : Bitboard) → goodPiece v ≡ true → i + 1 ≡ colourOf v → i < 2 → j + 1 ≡ kindOf v → j < 14
+      → andS (getD (p .players) i d) (getD (p .kinds) j e) ≡ setOf (λ n. eqb (cellAt (p .board) n) v)
+  piece-of v i j d e g ci hi kj hj =
+      let a : 1 + i ≡ colourOf v = omega arith in
+      let b : 1 + j ≡ kindOf v = omega arith in
+      ap₂ andS (player-set i d hi) (kind-set j e hj)
+      ∙ and-rules (λ n. eqb (colourOf (cellAt (p .board) n)) (1 + i)) (λ n. eqb (kindOf (cellAt (p .board) n)) (1 + j))
+      ∙ setOf-cong (λ n. eqb (colourOf (cellAt (p .board) n)) (1 + i) && eqb (kindOf (cellAt (p .board) n)) (1 + j)) (λ n. eqb (cellAt (p .board) n) v)
+      (λ n o. let r = board-range 9 n o in rw (a, b) (piece-by (cellAt (p .board) n) v (t .cells n (r .0) (r .1)) g))
+
+  pub black-kings : (d e : Bitboard) → andS (getD (p .players) 0 d) (getD (p .kinds) 7 e) ≡ setOf (λ n. eqb (cellAt (p .board) n) 8)
+  unfolding goodPiece goodKind colourOf kindOf
+  black-kings d e = piece-of 8 0 7 d e refl refl (omega arith) refl (omega arith)
+
+  pub white-kings : (d e : Bitboard) → andS (getD (p .players) 1 d) (getD (p .kinds) 7 e) ≡ setOf (λ n. eqb (cellAt (p .board) n) 24)
+  unfolding goodPiece goodKind colourOf kindOf
+  white-kings d e = piece-of 24 1 7 d e refl refl (omega arith) refl (omega arith)
 
 -- ---- the counts of a tidy position, by its sets
 good-kind : (c : ℕ) → goodCell c ≡ true → kindOf c ≤ 14
@@ -286,13 +245,10 @@ module _ (p : Position) (t : Tidy p) where
   abbrev isKind : ℕ → ℕ → Bool
   isKind k n = eqb (kindOf (cellAt (p .board) n)) k
 
-  kind-set : (j : ℕ) → j < 14 → getD (p .kinds) j emptyS ≡ setOf (isKind (1 + j))
-  kind-set j h = ap (λ (l : List Bitboard). getD l j emptyS) (t .kinds) ∙ family-at kindOf 14 (p .board) j emptyS h
-
   sets-size : (j : ℕ) → j < 7 → setsSize (p .kinds) j ≡ standing (p .board) (j + 1)
   unfolding setsSize standing
   sets-size j h =
-      ap size (ap₂ orS (kind-set j (omega arith)) (kind-set (promotedAt j) (promoted-at j h)) ∙ or-rules (isKind (1 + j)) (isKind (1 + promotedAt j)))
+      ap size (ap₂ orS (kind-set p t j emptyS (omega arith)) (kind-set p t (promotedAt j) emptyS (promoted-at j h)) ∙ or-rules (isKind (1 + j)) (isKind (1 + promotedAt j)))
       ∙ size-rule (λ n. isKind (1 + j) n || isKind (1 + promotedAt j) n)
       ∙ count-same (λ n. isKind (1 + j) n || isKind (1 + promotedAt j) n) (λ n. eqb (kindRow (kindOf (cellAt (p .board) n)) .unpromoted) (j + 1)) 1 1 81 (λ e l.
       split j (kindOf (cellAt (p .board) (1 + e))) h (good-kind (cellAt (p .board) (1 + e)) (t .cells (1 + e) (omega arith) (omega arith))))

@@ -1,5 +1,5 @@
 -- The invariant: the colour sets have the pieces of the kinds passed, and the sets of these kinds are made.
-use Prim.Native.Nat.{ℕ, _+_, _-_, _≤_}
+use Prim.Native.Nat.{_+_, _-_, _≤_}
 use mathlib.Core.Path.{_≡_, refl, ap, _∙_}
 use native.Mathlib.Omega.{arith}
 use Rattle.squares.proofs.Laws.{Filled, filled-none, filled-more, filled-all}
