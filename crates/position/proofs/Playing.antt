@@ -17,7 +17,7 @@ use Rattle.position.specs.Machine.{cellAt}
 use Rattle.position.specs.Moves.{arriving, numbersOf, movePlayed}
 use Rattle.position.specs.Steps.{toggled, setsAfter, carried, stepped}
 use Rattle.position.specs.Inner.{OnBoard}
-use Rattle.position.specs.Plans.{refusedBy, normalPlan, dropPlan, storedBy, toggledAt, playedBy, Playable, StepPlan, MovePlan}
+use Rattle.position.specs.Plans.{refusedBy, normalPlan, dropPlan, storedBy, toggledAt, playedBy, Playable, StepPlan, MovePlan, withSets}
 use Rattle.position.specs.declared.position.Position.{Position}
 use Rattle.position.specs.declared.plan.Plan.{Plan}
 use Rattle.position.specs.declared.answers.Answer.{Answer}
@@ -100,30 +100,16 @@ kind-piece : (x : ℕ) → 1 ≤ kindOf x → kindOf x ≤ 14 → goodPiece x �
 unfolding goodPiece goodKind
 kind-piece x l u = rw (le-leb 1 (kindOf x) l, le-leb (kindOf x) 14 u)
 
-abbrev coloured : Position → List Bitboard → Position
-coloured p sets =
-    record {
-      board = p .board;
-      hands = p .hands;
-      bking = p .bking;
-      wking = p .wking;
-      side = p .side;
-      last = p .last;
-      ply = p .ply;
-      players = sets;
-      kinds = p .kinds;
-    }
-
 module _ (p : Position) (x n : ℕ) where
   -- the position once the colour set is turned
   abbrev pub Coloured : Position → Type 0
-  Coloured q = q ≡ coloured p (toggled (p .players) (colourOf x) (singleS n))
+  Coloured q = q ≡ withSets p (toggled (p .players) (colourOf x) (singleS n)) (p .kinds)
 
   pub colour-turned : (k : ℕ) (one d r : Bitboard) → length (p .players) ≡ 2 → (x ≡ 0 → ⊥) → one ≡ singleS n → k ≡ colourOf x → r ≡ xorS (getD (p .players) (k - 1) d) one
-      → Coloured (coloured p (set (p .players) (k - 1) r))
+      → Coloured (withSets p (set (p .players) (k - 1) r) (p .kinds))
   colour-turned k one d r size full e ek er =
       let c = colour-in x full in
-      ap (coloured p) (toggle-in (p .players) k one d r (omega arith) (omega arith) er ∙ rw (ek, e))
+      ap (λ (l : List Bitboard). withSets p l (p .kinds)) (toggle-in (p .players) k one d r (omega arith) (omega arith) er ∙ rw (ek, e))
 
   pub colour-same : x ≡ 0 → Coloured p
   unfolding toggled
@@ -131,18 +117,7 @@ module _ (p : Position) (x n : ℕ) where
 
   pub kind-turned : (q : Position) (k : ℕ) (one d r : Bitboard) → Coloured q → length (p .kinds) ≡ 14 → goodPiece x ≡ true → one ≡ singleS n → k ≡ kindOf x
       → r ≡ xorS (getD (q .kinds) (k - 1) d) one
-      → record {
-        board = q .board;
-        hands = q .hands;
-        bking = q .bking;
-        wking = q .wking;
-        side = q .side;
-        last = q .last;
-        ply = q .ply;
-        players = q .players;
-        kinds = set (q .kinds) (k - 1) r;
-      }
-      ≡ toggledAt p x n
+      → withSets q (q .players) (set (q .kinds) (k - 1) r) ≡ toggledAt p x n
   unfolding toggledAt
   kind-turned q k one d r h size good e ek er =
       let b = piece-kind x good in

@@ -5,6 +5,7 @@ use mathlib.Core.Bool.{Bool, true, false, cond}
 use mathlib.Core.List.{List}
 use lib.ListN.{getD, set, replicate}
 use lib.Dec.{eqb}
+use Rattle.squares.specs.declared.bitboard.Bitboard.{Bitboard}
 use Rattle.squares.specs.Kinds.{goodColour, handKind, otherColour, colourOf, kindOf}
 use Rattle.squares.specs.Sets.{singleS}
 use Rattle.position.specs.Machine.{noMove}
@@ -83,9 +84,9 @@ storedBy p plan =
     })
     p
 
--- the square n leaves the sets of the cell x, or joins them
-unfoldable pub toggledAt : Position → ℕ → ℕ → Position
-toggledAt p x n =
+-- the position with other sets
+abbrev pub withSets : Position → List Bitboard → List Bitboard → Position
+withSets p players kinds =
     record {
       board = p .board;
       hands = p .hands;
@@ -94,9 +95,13 @@ toggledAt p x n =
       side = p .side;
       last = p .last;
       ply = p .ply;
-      players = toggled (p .players) (colourOf x) (singleS n);
-      kinds = toggled (p .kinds) (kindOf x) (singleS n);
+      players = players;
+      kinds = kinds;
     }
+
+-- the square n leaves the sets of the cell x, or joins them
+unfoldable pub toggledAt : Position → ℕ → ℕ → Position
+toggledAt p x n = withSets p (toggled (p .players) (colourOf x) (singleS n)) (toggled (p .kinds) (kindOf x) (singleS n))
 
 -- the plan carried out
 unfoldable pub playedBy : Position → Plan → Position
