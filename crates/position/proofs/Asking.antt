@@ -6,7 +6,7 @@ use mathlib.Core.Logic.{⊎-elim}
 use mathlib.Core.List.{List}
 use native.Mathlib.Omega.{arith}
 use native.Mathlib.Decide.{ℕ-discrete}
-use lib.ListN.{length, getD}
+use lib.ListN.{getD}
 use lib.Dec.{eqb, leb}
 use borrow.Author.Tests.{eq-eqb, ne-eqb, leb-true, not-true, not-false}
 use Rattle.squares.specs.declared.bitboard.Bitboard.{Bitboard}
@@ -14,7 +14,7 @@ use Rattle.squares.specs.Board.{onBoard}
 use Rattle.squares.specs.Kinds.{goodColour, goodKind, goodPiece, goodCell, colourOf, kindOf}
 use Rattle.squares.specs.Sets.{setOf, emptyS, andS, orS, notS}
 use Rattle.squares.proofs.Laws.{both, le-or-lt, board-range, setOf-cong, or-rules, not-rule, cell-piece, piece-low-bound, colour-range, kind-range, black-colour, white-colour, empty-colour}
-use Rattle.position.specs.Machine.{cellAt, family, kingSquare}
+use Rattle.position.specs.Machine.{Sized, cellAt, family, kingSquare}
 use Rattle.position.specs.Sound.{anyBelow, strayIn, kingWrong, firstFault, faultElsewhere, sound}
 use Rattle.position.specs.Inner.{Tidy}
 use Rattle.position.specs.Answers.{firstFact, toldBy, queryFacts, toldQuery, answered, stood, pieceAtAnswer, setAnswer, occupiedAnswer, sideAnswer, plyAnswer, handAt, goodHandKind, handAnswer, kingAt, kingAnswer, lastMove, lastAnswer}
@@ -75,9 +75,9 @@ colour-none x g = go (ℕ-discrete x 0)
         (λ (m : 16 < x). rw (white-colour x m, ne-eqb x 0 d)) (le-or-lt x 16)
 
 -- ---- the sets of a sound position
-module _ (p : Position) (two : length (p .players) ≡ 2) (fourteen : length (p .kinds) ≡ 14) (s : sound p ≡ true) where
+module _ (p : Position) (z : Sized p) (s : sound p ≡ true) where
   tidy : Tidy p
-  tidy = sound-tidy p two fourteen s
+  tidy = sound-tidy p z s
 
   pub piece-set : (v i j : ℕ) (d e : Bitboard) → goodPiece v ≡ true → i + 1 ≡ colourOf v → i < 2 → j + 1 ≡ kindOf v → j < 14
       → andS (getD (p .players) i d) (getD (p .kinds) j e) ≡ setOf (λ n. eqb (cellAt (p .board) n) v)
@@ -105,14 +105,14 @@ pub record AskedMark (p : Position) (mark : ℕ → ℕ) (count : ℕ) (sets : L
   pub range : good ≡ true → (1 ≤ k) × (k ≤ count)
   pub made : sound p ≡ true → sets ≡ family mark count (p .board)
 
-module _ (p : Position) (k : ℕ) (t : Told) (test : Bool) (two : length (p .players) ≡ 2) (fourteen : length (p .kinds) ≡ 14) (e : t ≡ toldQuery (not test) p) where
+module _ (p : Position) (k : ℕ) (t : Told) (test : Bool) (z : Sized p) (e : t ≡ toldQuery (not test) p) where
   pub asked-colour : test ≡ goodColour k → AskedMark p colourOf 2 (p .players) k (goodColour k) t
-  asked-colour z =
-      record { told = e ∙ ap (λ (b : Bool). toldQuery (not b) p) z; range = colour-range k; made = λ s. sound-tidy p two fourteen s .players }
+  asked-colour g =
+      record { told = e ∙ ap (λ (b : Bool). toldQuery (not b) p) g; range = colour-range k; made = λ s. sound-tidy p z s .players }
 
   pub asked-kind : test ≡ goodKind k → AskedMark p kindOf 14 (p .kinds) k (goodKind k) t
-  asked-kind z =
-      record { told = e ∙ ap (λ (b : Bool). toldQuery (not b) p) z; range = kind-range k; made = λ s. sound-tidy p two fourteen s .kinds }
+  asked-kind g =
+      record { told = e ∙ ap (λ (b : Bool). toldQuery (not b) p) g; range = kind-range k; made = λ s. sound-tidy p z s .kinds }
 
 module _ (p : Position) (mark : ℕ → ℕ) (count : ℕ) (sets : List Bitboard) (k : ℕ) (good : Bool) (t : Told) (a : AskedMark p mark count sets k good t) where
   pub mark-refused : (s : Bitboard) → s ≡ emptyS → (t .number ≡ 0 → ⊥) → record { told = t; set = s } ≡ setAnswer (not good) (λ x. eqb (mark x) k) p

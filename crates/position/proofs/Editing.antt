@@ -188,7 +188,7 @@ pub cell-good : (p : Position) → Sized p → sound p ≡ true → (n c : ℕ) 
 cell-good p s h n c g =
     let b = both (onBoard 9 n) (goodCell c) (not-false _ g) in
     let r = board-range 9 n (b .0) in
-    let t = sound-tidy p (s .players) (s .kinds) h in (
+    let t = sound-tidy p s h in (
       r .0,
       r .1,
       λ k lo hi.

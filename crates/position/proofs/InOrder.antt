@@ -58,7 +58,7 @@ no-faults p h =
 
 module _ (p : Position) (s : Sized p) (h : sound p ≡ true) where
   tidy : Tidy p
-  tidy = sound-tidy p (s .players) (s .kinds) h
+  tidy = sound-tidy p s h
 
   -- a sound position is the one of its machine
   pub sound-full : p ≡ full (machine p)

@@ -1,6 +1,7 @@
 -- Crates above cite Laws alone.
 mod Marking
 mod Agree
+mod Sizes
 mod Reading
 mod Elsewhere
 mod Tidiness

@@ -15,7 +15,7 @@ use Rattle.squares.specs.Board.{onBoard}
 use Rattle.squares.specs.Kinds.{kinds, kindRow, goodKind, goodPiece, goodCell, goodColour, colourOf, kindOf}
 use Rattle.squares.specs.Sets.{has, setOf, clean, emptyS, andS, orS, size, smallest, withoutS}
 use Rattle.squares.proofs.Laws.{both, decided, all-at, allFrom, rows-truth, le-or-lt, board-on, board-range, has-setOf, setOf-cong, clean-setOf, clean-has, and-rules, or-rules, First, smallest-is, smallest-at, smallest-none, size-without, size-none, has-withoutS, has-off, size-rule, count-same, cell-piece, piece-kind, black-kind}
-use Rattle.position.specs.Machine.{cellAt, family}
+use Rattle.position.specs.Machine.{Sized, cellAt, family}
 use Rattle.position.specs.Sound.{anyBelow, disagrees, faultyAt, readingAt, firstFault, strayIn, kingWrong, standing, overLimit, goodLast, faultElsewhere, sound}
 use Rattle.position.specs.Inner.{MarksOf, Compared, Tidy, TidyTold, kingOff, promotedAt, setsSize, overBySets}
 use Rattle.position.specs.Answers.{firstFact, toldBy, queryFacts, toldQuery, soundnessTold}
@@ -97,17 +97,17 @@ module _ (p : Position) where
       rw (e, reading-all n lo hi) at (first-none (faultyAt p) 0 81 (omega arith) h ((n - 1) % 9 * 9 + (8 - (n - 1) / 9)) (omega arith))
 
   -- a sound position is tidy
-  pub sound-tidy : length (p .players) ≡ 2 → length (p .kinds) ≡ 14 → sound p ≡ true → Tidy p
+  pub sound-tidy : Sized p → sound p ≡ true → Tidy p
   unfolding sound faultElsewhere
-  sound-tidy two fourteen h =
+  sound-tidy z h =
       let q = both (eqb (firstFault p) 0) (not (faultElsewhere p)) h in
       let first : firstFault p ≡ 0 = eqb-true (firstFault p) 0 (q .0) in
       let a = or-false-both (anyBelow (strayIn (p .players)) 2) _ (not-true (faultElsewhere p) (q .1)) in
       let b = or-false-both (anyBelow (strayIn (p .kinds)) 14) _ (a .1) in
       record {
         cells = λ n lo hi. cell-facts p n (no-fault first n lo hi) .0;
-        players = sets-match colourOf 2 (p .board) (p .players) two (a .0) (λ n lo hi. cell-facts p n (no-fault first n lo hi) .1);
-        kinds = sets-match kindOf 14 (p .board) (p .kinds) fourteen (b .0) (λ n lo hi. cell-facts p n (no-fault first n lo hi) .2);
+        players = sets-match colourOf 2 (p .board) (p .players) (z .players) (a .0) (λ n lo hi. cell-facts p n (no-fault first n lo hi) .1);
+        kinds = sets-match kindOf 14 (p .board) (p .kinds) (z .kinds) (b .0) (λ n lo hi. cell-facts p n (no-fault first n lo hi) .2);
       }
 
   -- a tidy one is sound where no fault lies elsewhere
@@ -295,8 +295,8 @@ pub told-unsound : (p : Position) → sound p ≡ false → record { number = 1;
 unfolding soundnessTold toldQuery toldBy queryFacts firstFact
 told-unsound p e = rw e
 
-pub untidy-unsound : (p : Position) → length (p .players) ≡ 2 → length (p .kinds) ≡ 14 → (Tidy p → ⊥) → sound p ≡ false
-untidy-unsound p two fourteen d = ⊎-elim (λ e. absurd (d (sound-tidy p two fourteen e))) (λ e. e) (decided (sound p))
+pub untidy-unsound : (p : Position) → Sized p → (Tidy p → ⊥) → sound p ≡ false
+untidy-unsound p z d = ⊎-elim (λ e. absurd (d (sound-tidy p z e))) (λ e. e) (decided (sound p))
 
 pub told-bad : (p : Position) (bad : Bool) → bad ≡ true → record { number = 2; square = 0 } ≡ toldQuery bad p
 unfolding toldQuery toldBy queryFacts firstFact

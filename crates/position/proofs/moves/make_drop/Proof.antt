@@ -1,12 +1,12 @@
 use mathlib.Core.Path.{_≡_, sym, _∙_}
 use native.Mathlib.Omega.{arith}
-use lib.ListN.{length-map}
 use Rattle.squares.proofs.Laws.{piece-kind}
 use Rattle.position.specs.Machine.{machine, cellAt}
 use Rattle.position.specs.Answers.{firstFact}
 use Rattle.position.specs.Moves.{ruleFacts, spent, next}
 use Rattle.position.specs.Plans.{dropPlan}
 use Rattle.position.specs.declared.mv.Move.the-variants.{Drop}
+use Rattle.position.proofs.Sizes.{sized}
 use Rattle.position.proofs.InOrder.{Sized}
 use Rattle.position.proofs.Ladder.{CanDrop, drop-passes, rule-refuses, rule-passes}
 use Rattle.position.proofs.Kept.{drop-carried}
@@ -17,13 +17,7 @@ use Rattle.position.proofs.moves.make_drop.Statement.{statement}
 use Rattle.position.proofs.moves.make_drop.Tie as tie
 
 size : (s : tie.Start) → Sized (s .args .p)
-size s =
-    record {
-      board = omega (arith, length-map (s .args .p .board) (denote.Struct.Field.u8-field .into), s .good);
-      hands = omega (arith, length-map (s .args .p .hands) (denote.Struct.Field.u8-field .into), s .good);
-      players = omega (arith, length-map (s .args .p .players) (Rattle.squares.proofs.bitboard.Bitboard.the-type .to), s .good);
-      kinds = omega (arith, length-map (s .args .p .kinds) (Rattle.squares.proofs.bitboard.Bitboard.the-type .to), s .good);
-    }
+size s = sized _ _ (s .good .0)
 
 module _ (q : tie.After-drop-refusal) where
   abbrev start : tie.Start

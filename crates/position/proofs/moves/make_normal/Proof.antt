@@ -2,13 +2,13 @@ use mathlib.Core.Path.{_≡_, refl, sym, ap, _∙_}
 use mathlib.Core.Logic.{⊎-elim}
 use Prim.Native.Nat.{ℕ}
 use native.Mathlib.Omega.{arith}
-use lib.ListN.{length-map}
 use borrow.Author.Tests.{eqb-false}
 use Rattle.position.specs.Machine.{machine, cellAt}
 use Rattle.position.specs.Answers.{firstFact}
 use Rattle.position.specs.Moves.{ruleFacts, held, next}
 use Rattle.position.specs.Plans.{normalPlan}
 use Rattle.position.specs.declared.mv.Move.the-variants.{Normal}
+use Rattle.position.proofs.Sizes.{sized}
 use Rattle.position.proofs.InOrder.{Sized}
 use Rattle.position.proofs.Ladder.{CanMove, normal-passes, rule-refuses, rule-passes}
 use Rattle.position.proofs.Kept.{normal-carried}
@@ -19,13 +19,7 @@ use Rattle.position.proofs.moves.make_normal.Statement.{statement}
 use Rattle.position.proofs.moves.make_normal.Tie as tie
 
 size : (s : tie.Start) → Sized (s .args .p)
-size s =
-    record {
-      board = omega (arith, length-map (s .args .p .board) (denote.Struct.Field.u8-field .into), s .good);
-      hands = omega (arith, length-map (s .args .p .hands) (denote.Struct.Field.u8-field .into), s .good);
-      players = omega (arith, length-map (s .args .p .players) (Rattle.squares.proofs.bitboard.Bitboard.the-type .to), s .good);
-      kinds = omega (arith, length-map (s .args .p .kinds) (Rattle.squares.proofs.bitboard.Bitboard.the-type .to), s .good);
-    }
+size s = sized _ _ (s .good .0)
 
 module _ (q : tie.After-known-told) where
   abbrev start : tie.Start

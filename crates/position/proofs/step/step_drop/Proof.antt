@@ -2,7 +2,7 @@ use Prim.Native.Nat.{ℕ}
 use mathlib.Core.List.{List}
 use mathlib.Core.Path.{_≡_, sym, _∙_}
 use native.Mathlib.Omega.{arith}
-use lib.ListN.{length, length-map}
+use lib.ListN.{length}
 use borrow.Author.Tests.{not-true, not-false}
 use Rattle.squares.proofs.Laws.{piece-kind, colour-range}
 use Rattle.position.specs.Machine.{cellAt}
@@ -10,6 +10,7 @@ use Rattle.position.specs.Moves.{spent}
 use Rattle.position.specs.Steps.{carriedBy, handFits}
 use Rattle.position.specs.Plans.{dropPlan, Playable}
 use Rattle.position.specs.declared.mv.Move.the-variants.{Drop}
+use Rattle.position.proofs.Sizes.{sized}
 use Rattle.position.proofs.Halves.{drop-numbers}
 use Rattle.position.proofs.Playing.{plan-keeps, plan-steps, drop-plays}
 use Rattle.position.proofs.Stepping.{step-keeps, step-does, step-fits, holds-piece}
@@ -18,7 +19,7 @@ use Rattle.position.proofs.step.step_drop.Statement.{statement}
 use Rattle.position.proofs.step.step_drop.Tie as tie
 
 size : (s : tie.Start) → length (s .args .p .board) ≡ 81
-size s = omega (arith, length-map (s .args .p .board) (denote.Struct.Field.u8-field .into), s .good)
+size s = sized (s .args .p) _ (s .good .0) .board
 
 module _ (q : tie.After-has-piece) where
   abbrev start : tie.Start

@@ -3,19 +3,17 @@ use mathlib.Core.Logic.{⊎-elim}
 use Prim.Native.Nat.{_≤_}
 use mathlib.Core.Bool.{true}
 use native.Mathlib.Omega.{arith}
-use lib.ListN.{length, length-map}
 use Rattle.squares.specs.Kinds.{goodPiece}
 use Rattle.squares.proofs.Laws.{piece-kind}
+use Rattle.position.specs.Machine.{Sized}
+use Rattle.position.proofs.Sizes.{sized}
 use Rattle.position.proofs.Playing.{colour-in, Coloured, colour-turned, colour-same, kind-turned, kind-same}
 use borrow.Author.Needs.{needs}
 use Rattle.position.proofs.step.toggle.Statement.{statement}
 use Rattle.position.proofs.step.toggle.Tie as tie
 
-players-size : (s : tie.Start) → length (s .args .p .players) ≡ 2
-players-size s = omega (arith, length-map (s .args .p .players) (Rattle.squares.proofs.bitboard.Bitboard.the-type .to), s .good)
-
-kinds-size : (s : tie.Start) → length (s .args .p .kinds) ≡ 14
-kinds-size s = omega (arith, length-map (s .args .p .kinds) (Rattle.squares.proofs.bitboard.Bitboard.the-type .to), s .good)
+size : (s : tie.Start) → Sized (s .args .p)
+size s = sized _ _ (s .good .0)
 
 colour : (q : tie.After-color-of) → (1 ≤ q .color-of .result) × (q .color-of .result ≤ 2)
 colour q = rw (q .color-of .ensures) (colour-in _ (q .before .if1 .taken))
@@ -30,7 +28,7 @@ kind q = rw (q .kind-of .ensures) (piece-kind _ (good q))
 turned : (q : tie.Joined1) → Coloured (q .before .before .args .p) (q .before .before .args .x) (q .before .before .args .n) (q .if1 .q)
 turned q =
     ⊎-elim
-    (λ w. w .4 ∙ colour-turned _ _ _ _ _ _ _ (players-size (q .before .before)) (w .0 .taken) (q .before .single .ensures) (w .1 .ensures) (w .3 .ensures))
+    (λ w. w .4 ∙ colour-turned _ _ _ _ _ _ _ (size (q .before .before) .players) (w .0 .taken) (q .before .single .ensures) (w .1 .ensures) (w .3 .ensures))
     (λ w. w .1 ∙ colour-same _ _ _ (w .0 .left))
     (q .if1 .came)
 
@@ -53,10 +51,10 @@ element-set-from-q-2 : tie.Need-element-set-from-q-2
 element-set-from-q-2 c = omega (arith, kind (c .before .before) .1)
 
 returns : tie.Need-returns
-returns c = let k = c .before .before in let j = k .before .before .before in kind-turned _ _ _ _ _ _ _ _ (turned j) (kinds-size (j .before .before)) (good k) (j .before .single .ensures) (k .kind-of .ensures) (c .xor2 .ensures)
+returns c = let k = c .before .before in let j = k .before .before .before in kind-turned _ _ _ _ _ _ _ _ (turned j) (size (j .before .before) .kinds) (good k) (j .before .single .ensures) (k .kind-of .ensures) (c .xor2 .ensures)
 
 returns-2 : tie.Need-returns-2
-returns-2 c = let j = c .before .before in kind-same _ _ _ _ (turned j) (kinds-size (j .before .before)) (sym (c .before .is-piece .ensures) ∙ c .if2 .left)
+returns-2 c = let j = c .before .before in kind-same _ _ _ _ (turned j) (size (j .before .before) .kinds) (sym (c .before .is-piece .ensures) ∙ c .if2 .left)
 
 pub toggle-spec : {M : Type 1} → statement M
 toggle-spec =

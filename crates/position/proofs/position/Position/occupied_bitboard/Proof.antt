@@ -1,21 +1,12 @@
-use mathlib.Core.Path.{_≡_, _∙_}
+use mathlib.Core.Path.{_∙_}
 use mathlib.Core.Bool.{not}
-use native.Mathlib.Omega.{arith}
-use lib.ListN.{length, length-map}
 use lib.Dec.{eqb}
 use borrow.Author.Needs.{needs}
-use Rattle.squares.specs.declared.bitboard.Bitboard.{Bitboard}
 use Rattle.position.specs.Answers.{occupiedAnswer}
+use Rattle.position.proofs.Sizes.{sized}
 use Rattle.position.proofs.Asking.{done-sound, set-refused, set-done, occupied-set}
 use Rattle.position.proofs.position.Position.occupied_bitboard.Statement.{statement}
 use Rattle.position.proofs.position.Position.occupied_bitboard.Tie as tie
-
-module _ (s : tie.Start) where
-  two : length (s .args .t1 .players) ≡ 2
-  two = omega (arith, length-map (s .args .t1 .players) (Rattle.squares.proofs.bitboard.Bitboard.the-type .to), s .good)
-
-  fourteen : length (s .args .t1 .kinds) ≡ 14
-  fourteen = omega (arith, length-map (s .args .t1 .kinds) (Rattle.squares.proofs.bitboard.Bitboard.the-type .to), s .good)
 
 returns : tie.Need-returns
 unfolding occupiedAnswer
@@ -27,7 +18,7 @@ returns-2 c =
     let s = c .before .before .before .before .before .before in
     let q = c .before .before .before .before .before .told .ensures in
     let done = c .before .before .before .if1 .left in
-    set-done _ _ _ q (λ x. not (eqb x 0)) _ done (c .or .ensures ∙ occupied-set (s .args .t1) (two s) (fourteen s) (done-sound _ _ _ q done) _ _)
+    set-done _ _ _ q (λ x. not (eqb x 0)) _ done (c .or .ensures ∙ occupied-set (s .args .t1) (sized _ _ (s .good .0)) (done-sound _ _ _ q done) _ _)
 
 pub occupied-bitboard-spec : {M : Type 1} → statement M
 occupied-bitboard-spec = tie.close (tie.spec (search needs) (search needs) returns (search needs) (search needs) (search needs) returns-2)

@@ -1,22 +1,14 @@
 use mathlib.Core.Path.{_≡_, ap, _∙_}
 use mathlib.Core.Bool.{Bool, true, not}
 use native.Mathlib.Omega.{arith}
-use lib.ListN.{length, length-map}
 use lib.Dec.{eqb}
 use borrow.Author.Tests.{not-false}
-use Rattle.squares.specs.declared.bitboard.Bitboard.{Bitboard}
 use Rattle.squares.specs.Kinds.{goodPiece}
 use Rattle.position.specs.Answers.{toldQuery, pieceSetAnswer}
+use Rattle.position.proofs.Sizes.{sized}
 use Rattle.position.proofs.Asking.{done-good, done-sound, set-refused, set-done, piece-set}
 use Rattle.position.proofs.position.Position.piece_bitboard.Statement.{statement}
 use Rattle.position.proofs.position.Position.piece_bitboard.Tie as tie
-
-module _ (s : tie.Start) where
-  two : length (s .args .t1 .players) ≡ 2
-  two = omega (arith, length-map (s .args .t1 .players) (Rattle.squares.proofs.bitboard.Bitboard.the-type .to), s .good)
-
-  fourteen : length (s .args .t1 .kinds) ≡ 14
-  fourteen = omega (arith, length-map (s .args .t1 .kinds) (Rattle.squares.proofs.bitboard.Bitboard.the-type .to), s .good)
 
 module _ (c : tie.After-told) where
   query : c .told .result ≡ toldQuery (not (goodPiece (c .before .before .args .piece))) (c .before .before .args .t1)
@@ -45,7 +37,7 @@ returns-2 c =
     let i = c .before .before .before .before .color-index .ensures in
     let j = c .before .before .kind-index .ensures in
     set-done _ _ _ q (λ x. eqb x (s .args .piece)) _ (e .if1 .left)
-    (c .and .ensures ∙ piece-set (s .args .t1) (two s) (fourteen s) (done-sound _ _ _ q (e .if1 .left)) (s .args .piece) _ _ _ _ (good e) (i .0) (i .1) (j .0) (j .1))
+    (c .and .ensures ∙ piece-set (s .args .t1) (sized _ _ (s .good .0)) (done-sound _ _ _ q (e .if1 .left)) (s .args .piece) _ _ _ _ (good e) (i .0) (i .1) (j .0) (j .1))
 
 pub piece-bitboard-spec : {M : Type 1} → statement M
 piece-bitboard-spec =

@@ -1,7 +1,7 @@
 use native.Mathlib.Omega.{arith}
-use lib.ListN.{length-map}
 use Rattle.squares.specs.Kinds.{goodKind, kindOf}
 use Rattle.position.specs.Answers.{kindSetAnswer}
+use Rattle.position.proofs.Sizes.{sized}
 use Rattle.position.proofs.Asking.{AskedMark, asked-kind, mark-refused, mark-range, mark-done}
 use Rattle.position.proofs.position.Position.piece_kind_bitboard.Statement.{statement}
 use Rattle.position.proofs.position.Position.piece_kind_bitboard.Tie as tie
@@ -11,9 +11,7 @@ module _ (c : tie.After-told) where
   s = c .before .before
 
   asked : AskedMark (s .args .t1) kindOf 14 (s .args .t1 .kinds) (s .args .kind) (goodKind (s .args .kind)) (c .told .result)
-  asked =
-      asked-kind _ _ _ _ (omega (arith, length-map (s .args .t1 .players) (Rattle.squares.proofs.bitboard.Bitboard.the-type .to), s .good))
-      (omega (arith, length-map (s .args .t1 .kinds) (Rattle.squares.proofs.bitboard.Bitboard.the-type .to), s .good)) (c .told .ensures) (c .before .is-kind .ensures)
+  asked = asked-kind _ _ _ _ (sized _ _ (s .good .0)) (c .told .ensures) (c .before .is-kind .ensures)
 
 returns : tie.Need-returns
 unfolding kindSetAnswer

@@ -2,13 +2,14 @@ use mathlib.Core.Path.{_≡_, ap, _∙_}
 use mathlib.Core.Bool.{Bool, not, _&&_}
 use Prim.Native.Nat.{_-_, _≤_}
 use native.Mathlib.Omega.{arith}
-use lib.ListN.{set, length-map}
+use lib.ListN.{set}
 use borrow.Author.Needs.{needs}
 use Rattle.squares.specs.Board.{onBoard}
 use Rattle.squares.specs.Kinds.{goodCell}
 use Rattle.position.specs.Answers.{toldQuery}
 use Rattle.position.specs.Inner.{AllGood}
 use Rattle.position.specs.Edits.{cellEdited}
+use Rattle.position.proofs.Sizes.{sized}
 use Rattle.position.proofs.InOrder.{Sized}
 use Rattle.position.proofs.Asking.{done-good, done-sound}
 use Rattle.position.proofs.Editing.{edit-refuses, edit-settles, cell-good}
@@ -16,13 +17,7 @@ use Rattle.position.proofs.position.Position.piece_set.Statement.{state
 use Rattle.position.proofs.position.Position.piece_set.Tie as tie
 
 size : (s : tie.Start) → Sized (s .args .self)
-size s =
-    record {
-      board = omega (arith, length-map (s .args .self .board) (denote.Struct.Field.u8-field .into), s .good);
-      hands = omega (arith, length-map (s .args .self .hands) (denote.Struct.Field.u8-field .into), s .good);
-      players = omega (arith, length-map (s .args .self .players) (Rattle.squares.proofs.bitboard.Bitboard.the-type .to), s .good);
-      kinds = omega (arith, length-map (s .args .self .kinds) (Rattle.squares.proofs.bitboard.Bitboard.the-type .to), s .good);
-    }
+size s = sized _ _ (s .good .0)
 
 module _ (c : tie.After-told) where
   abbrev start : tie.Start

@@ -1,23 +1,16 @@
 use mathlib.Core.Path.{_∙_}
-use native.Mathlib.Omega.{arith}
-use lib.ListN.{length-map}
 use borrow.Author.Needs.{needs}
 use Rattle.position.specs.Machine.{machine}
 use Rattle.position.specs.Edits.{plyEdited, withPly}
 use Rattle.position.proofs.InOrder.{Sized}
+use Rattle.position.proofs.Sizes.{sized}
 use Rattle.position.proofs.Asking.{done-sound}
 use Rattle.position.proofs.Editing.{edit-refuses, edit-settles, same-cells}
 use Rattle.position.proofs.position.Position.ply_set.Statement.{statement}
 use Rattle.position.proofs.position.Position.ply_set.Tie as tie
 
 size : (s : tie.Start) → Sized (s .args .self)
-size s =
-    record {
-      board = omega (arith, length-map (s .args .self .board) (denote.Struct.Field.u8-field .into), s .good);
-      hands = omega (arith, length-map (s .args .self .hands) (denote.Struct.Field.u8-field .into), s .good);
-      players = omega (arith, length-map (s .args .self .players) (Rattle.squares.proofs.bitboard.Bitboard.the-type .to), s .good);
-      kinds = omega (arith, length-map (s .args .self .kinds) (Rattle.squares.proofs.bitboard.Bitboard.the-type .to), s .good);
-    }
+size s = sized _ _ (s .good .0)
 
 returns : tie.Need-returns
 unfolding plyEdited

@@ -1,26 +1,18 @@
 use mathlib.Core.Path.{_≡_, sym, ap, _∙_}
 use mathlib.Core.Bool.{not}
-use native.Mathlib.Omega.{arith}
-use lib.ListN.{length, length-map}
 use borrow.Author.Tests.{not-true, not-false}
 use borrow.Author.Needs.{needs}
 use Rattle.position.specs.Sound.{firstFault}
+use Rattle.position.proofs.Sizes.{sized}
 use Rattle.position.proofs.Tidiness.{tidy-fault, tidy-sound, told-sound, told-unsound, untidy-unsound}
 use Rattle.position.proofs.position.Position.soundness.Statement.{statement}
 use Rattle.position.proofs.position.Position.soundness.Tie as tie
-
-module _ (s : tie.Start) where
-  two : length (s .args .self .players) ≡ 2
-  two = omega (arith, length-map (s .args .self .players) (Rattle.squares.proofs.bitboard.Bitboard.the-type .to), s .good)
-
-  fourteen : length (s .args .self .kinds) ≡ 14
-  fourteen = omega (arith, length-map (s .args .self .kinds) (Rattle.squares.proofs.bitboard.Bitboard.the-type .to), s .good)
 
 returns : tie.Need-returns
 returns c =
     let s = c .before .before .before in
     let p = s .args .self in
-    rw (c .first-fault .ensures) (told-unsound p (untidy-unsound p (two s) (fourteen s) (c .before .before .is-tidy .ensures .no (not-true _ (c .before .if1 .taken)))))
+    rw (c .first-fault .ensures) (told-unsound p (untidy-unsound p (sized _ _ (s .good .0)) (c .before .before .is-tidy .ensures .no (not-true _ (c .before .if1 .taken)))))
 
 fault-elsewhere-requires : tie.Need-fault-elsewhere-requires
 fault-elsewhere-requires c κs = c .before .is-tidy .ensures .yes (not-false _ (c .if1 .left))
