@@ -13,7 +13,7 @@ use Rattle.squares.specs.declared.bitboard.Bitboard.{Bitboard}
 use Rattle.squares.specs.Board.{onBoard}
 use Rattle.squares.specs.Kinds.{goodColour, goodKind, goodPiece, goodCell, colourOf, kindOf}
 use Rattle.squares.specs.Sets.{setOf, emptyS, andS, orS, notS}
-use Rattle.squares.proofs.Laws.{both, le-or-lt, board-range, setOf-cong, or-rules, not-rule, cell-piece, piece-low-bound, colour-range, kind-range, black-colour, white-colour, empty-colour}
+use Rattle.squares.proofs.Laws.{both, good-cells, le-or-lt, board-range, setOf-cong, or-rules, not-rule, colour-range, kind-range}
 use Rattle.position.specs.Machine.{Sized, cellAt, family, kingSquare}
 use Rattle.position.specs.Sound.{anyBelow, strayIn, kingWrong, firstFault, faultElsewhere, sound}
 use Rattle.position.specs.Inner.{Tidy}
@@ -66,13 +66,8 @@ module _ (p : Position) (bad : Bool) (t : Told) (e : t ≡ toldQuery bad p) wher
 
 -- ---- a cell with a colour is not empty
 colour-none : (x : ℕ) → goodCell x ≡ true → eqb (colourOf x) 1 || eqb (colourOf x) 2 ≡ not (eqb x 0)
-colour-none x g = go (ℕ-discrete x 0)
-  where
-    go : Dec (x ≡ 0) → eqb (colourOf x) 1 || eqb (colourOf x) 2 ≡ not (eqb x 0)
-    go (yes e) = let z : colourOf x ≡ 0 = ap colourOf e ∙ empty-colour in rw (z, eq-eqb x 0 e)
-    go (no d) =
-        ⊎-elim (λ (m : x ≤ 16). rw (black-colour x (piece-low-bound x (cell-piece x g d)) m, ne-eqb x 0 d))
-        (λ (m : 16 < x). rw (white-colour x m, ne-eqb x 0 d)) (le-or-lt x 16)
+unfolding goodCell goodPiece goodKind colourOf kindOf
+colour-none = good-cells (λ x. eqb (colourOf x) 1 || eqb (colourOf x) 2) (λ x. not (eqb x 0)) tt
 
 -- ---- the sets of a sound position
 module _ (p : Position) (z : Sized p) (s : sound p ≡ true) where

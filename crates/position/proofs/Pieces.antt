@@ -1,16 +1,15 @@
 -- The piece that arrives, and the kind as which a piece is held, at each of the good cells by one computed test.
 use mathlib.Core.Path.{_≡_, refl, sym, ap, _∙_}
-use mathlib.Core.Logic.{_⊎_, inl, inr, ⊎-elim}
+use mathlib.Core.Logic.{⊎-elim}
 use Prim.Native.Nat.{ℕ, zero, suc, _+_, _-_, _≤_, _<_}
-use mathlib.Core.Bool.{Bool, true, false, not, _&&_, _||_, true≢false}
+use mathlib.Core.Bool.{Bool, true, false, not, _&&_, _||_, Bool·beq, true≢false}
 use native.Mathlib.Omega.{arith}
-use native.Mathlib.Decide.{ℕ-discrete}
 use lib.Dec.{eqb, leb}
 use borrow.Author.Tests.{eqb-true, eqb-false, ne-eqb, leb-true, lt-leb, not-false, not-true}
 use Rattle.squares.specs.Kinds.{kindRow, kinds, goodKind, handKind, goodColour, otherColour, pieceOf, colourOf, kindOf, goodPiece, goodCell, promotedPiece}
 use Rattle.squares.specs.Answers.{FormValue, formIf, formGiven, promotedPieceAnswer, handKindAnswer}
 use Rattle.squares.specs.declared.answers.FormAnswer.{FormAnswer}
-use Rattle.squares.proofs.Laws.{both, decided, le-or-lt, eqb-same, piece-high, kind-high, row-bad, cell-piece, piece-low-bound, black-kind, white-kind, black-colour, white-colour, empty-colour}
+use Rattle.squares.proofs.Laws.{both, all-at, allFrom, good-cells, decided, le-or-lt, piece-high, kind-high, row-bad}
 use Rattle.position.specs.Sound.{anyBelow}
 use Rattle.position.specs.Moves.{arriving}
 use Rattle.position.proofs.Agree.{any-each}
@@ -138,37 +137,7 @@ held-value r k e = form-value r (goodKind k) (handKind k) (no-held k) e
 
 -- ---- a piece by its colour and its kind
 pub piece-by : (x v : ℕ) → goodCell x ≡ true → goodPiece v ≡ true → eqb (colourOf x) (colourOf v) && eqb (kindOf x) (kindOf v) ≡ eqb x v
-piece-by x v g h = ⊎-elim black white (le-or-lt v 16)
-  where
-    cell : Dec (x ≡ 0) → (x ≡ 0) ⊎ (goodPiece x ≡ true)
-    cell (yes e) = inl e
-    cell (no d) = inr (cell-piece x g d)
-
-    black : v ≤ 16 → eqb (colourOf x) (colourOf v) && eqb (kindOf x) (kindOf v) ≡ eqb x v
-    black l = rw (black-colour v (piece-low-bound v h) l, black-kind v l) (⊎-elim none (λ q. ⊎-elim same other (le-or-lt x 16)) (cell (ℕ-discrete x 0)))
-      where
-        none : x ≡ 0 → eqb (colourOf x) 1 && eqb (kindOf x) v ≡ eqb x v
-        none e = let z : colourOf x ≡ 0 = ap colourOf e ∙ empty-colour in rw z (sym (ne-eqb x v (λ q. let b = piece-low-bound v h in omega arith)))
-
-        same : x ≤ 16 → eqb (colourOf x) 1 && eqb (kindOf x) v ≡ eqb x v
-        same m = go (ℕ-discrete x 0)
-          where
-            go : Dec (x ≡ 0) → eqb (colourOf x) 1 && eqb (kindOf x) v ≡ eqb x v
-            go (yes e) = none e
-            go (no d) = rw (black-colour x (piece-low-bound x (cell-piece x g d)) m, black-kind x m)
-
-        other : 16 < x → eqb (colourOf x) 1 && eqb (kindOf x) v ≡ eqb x v
-        other m = rw (white-colour x m) (sym (ne-eqb x v (λ q. omega arith)))
-
-    white : 16 < v → eqb (colourOf x) (colourOf v) && eqb (kindOf x) (kindOf v) ≡ eqb x v
-    white l = rw (white-colour v l, white-kind v l) (⊎-elim low high (le-or-lt x 16))
-      where
-        low : x ≤ 16 → eqb (colourOf x) 2 && eqb (kindOf x) (v - 16) ≡ eqb x v
-        low m = go (ℕ-discrete x 0)
-          where
-            go : Dec (x ≡ 0) → eqb (colourOf x) 2 && eqb (kindOf x) (v - 16) ≡ eqb x v
-            go (yes e) = let z : colourOf x ≡ 0 = ap colourOf e ∙ empty-colour in rw z (sym (ne-eqb x v (λ q. omega arith)))
-            go (no d) = rw (black-colour x (piece-low-bound x (cell-piece x g d)) m) (sym (ne-eqb x v (λ q. omega arith)))
-
-        high : 16 < x → eqb (colourOf x) 2 && eqb (kindOf x) (v - 16) ≡ eqb x v
-        high m = rw (white-colour x m, white-kind x m) (eqb-same (x - 16) (v - 16) x v (λ q. omega arith) (λ q. omega arith))
+unfolding goodCell goodPiece goodKind colourOf kindOf
+piece-by x v g h =
+    good-cells (λ x. eqb (colourOf x) (colourOf v) && eqb (kindOf x) (kindOf v)) (λ x. eqb x v)
+    (all-at (λ v. allFrom (λ x. Bool·beq (goodCell x && (eqb (colourOf x) (colourOf v) && eqb (kindOf x) (kindOf v))) (goodCell x && eqb x v)) 0 31) 31 tt v (piece-small v h)) x g
