@@ -11,7 +11,7 @@ use lib.Arith.{lt-of-le-ne}
 use borrow.Author.Tests.{eq-eqb, ne-eqb, not-false}
 use Rattle.squares.specs.Board.{onBoard}
 use Rattle.squares.specs.Kinds.{kindRow, kinds, handKind, goodPiece, kindOf}
-use Rattle.squares.proofs.Laws.{both, le-or-lt, colour-range}
+use Rattle.squares.proofs.Laws.{both, le-or-lt, colour-range, limit-small, held-small}
 use Rattle.position.specs.Machine.{machine, cellAt}
 use Rattle.position.specs.Sound.{sound}
 use Rattle.position.specs.Answers.{firstFact, stood}
@@ -22,7 +22,7 @@ use Rattle.position.specs.declared.position.Position.{Position}
 use Rattle.position.specs.declared.mv.Move.the-variants.{Normal, Drop}
 use Rattle.position.specs.declared.answers.Stands.the-variants.{Nothing, Piece}
 use Rattle.position.proofs.InOrder.{Sized, sound-order}
-use Rattle.position.proofs.Pieces.{limit-small, held-small, positive}
+use Rattle.position.proofs.Pieces.{positive}
 use Rattle.position.proofs.Tallies.{hand-in}
 use Rattle.position.proofs.Ladder.{CanMove, CanDrop, on-board}
 

@@ -11,7 +11,7 @@ use lib.Dec.{leb}
 use borrow.Author.Tests.{eqb-false}
 use Rattle.squares.specs.Board.{onBoard}
 use Rattle.squares.specs.Kinds.{kindRow, goodCell, colourOf, kindOf}
-use Rattle.squares.proofs.Laws.{board-on, board-range, cell-piece, piece-cell, cell-zero, colour-range, black-kind, white-kind}
+use Rattle.squares.proofs.Laws.{board-on, board-range, cell-piece, piece-cell, cell-zero, colour-range, black-kind, white-kind, other-good}
 use Rattle.position.specs.Machine.{Machine, machine, full, cellAt, kingSquare}
 use Rattle.position.specs.Sound.{sound, standing, goodLast}
 use Rattle.position.specs.Moves.{arriving, held, spent, numbersOf, moved, dropped}
@@ -21,7 +21,7 @@ use Rattle.position.specs.declared.mv.Move.the-variants.{Normal, Drop}
 use Rattle.position.proofs.Stores.{cell-same, cell-other}
 use Rattle.position.proofs.Kings.{KingIs, king-square, king-moves}
 use Rattle.position.proofs.InOrder.{InOrder, Sized, sound-full, sound-order}
-use Rattle.position.proofs.Pieces.{Lands, arriving-lands, cell-held, plain-kind, other-good}
+use Rattle.position.proofs.Pieces.{Lands, arriving-lands, cell-held, plain-kind}
 use Rattle.position.proofs.Carry.{carry-full}
 use Rattle.position.proofs.Tallies.{standing-store, empty-none, held-sum, spent-sum}
 use Rattle.position.proofs.Ladder.{CanMove, CanDrop}

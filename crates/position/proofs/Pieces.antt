@@ -1,15 +1,15 @@
 -- The piece that arrives, and the kind as which a piece is held, at each of the good cells by one computed test.
 use mathlib.Core.Path.{_≡_, refl, sym, ap, _∙_}
 use mathlib.Core.Logic.{⊎-elim}
-use Prim.Native.Nat.{ℕ, zero, suc, _+_, _-_, _≤_, _<_}
-use mathlib.Core.Bool.{Bool, true, false, not, _&&_, _||_, Bool·beq, true≢false}
+use Prim.Native.Nat.{ℕ, zero, suc, _≤_, _<_}
+use mathlib.Core.Bool.{Bool, true, false, not, _&&_, _||_, true≢false}
 use native.Mathlib.Omega.{arith}
 use lib.Dec.{eqb, leb}
 use borrow.Author.Tests.{eqb-true, eqb-false, ne-eqb, leb-true, lt-leb, not-false, not-true}
-use Rattle.squares.specs.Kinds.{kindRow, kinds, goodKind, handKind, goodColour, otherColour, pieceOf, colourOf, kindOf, goodPiece, goodCell, promotedPiece}
+use Rattle.squares.specs.Kinds.{kindRow, kinds, goodKind, handKind, pieceOf, colourOf, kindOf, goodPiece, goodCell, promotedPiece}
 use Rattle.squares.specs.Answers.{FormValue, formIf, formGiven, promotedPieceAnswer, handKindAnswer}
 use Rattle.squares.specs.declared.answers.FormAnswer.{FormAnswer}
-use Rattle.squares.proofs.Laws.{both, all-at, allFrom, good-cells, decided, le-or-lt, piece-high, kind-high, row-bad}
+use Rattle.squares.proofs.Laws.{both, piece-small, no-promoted, no-held, decided}
 use Rattle.position.specs.Sound.{anyBelow}
 use Rattle.position.specs.Moves.{arriving}
 use Rattle.position.proofs.Agree.{any-each}
@@ -24,9 +24,6 @@ or-right false b e h = h
 
 abbrev pub unkind : ℕ → ℕ
 unkind c = kindRow (kindOf c) .unpromoted
-
-pub piece-small : (c : ℕ) → goodPiece c ≡ true → c < 31
-piece-small c g = ⊎-elim (λ (h : 31 ≤ c). absurd (true≢false (sym g ∙ piece-high c h))) (λ (h : c < 31). h) (le-or-lt 31 c)
 
 -- ---- what promotes becomes a piece of the same unpromoted kind, and no king
 pub record Lands (v c : ℕ) : Type 0 where
@@ -90,39 +87,7 @@ pub plain-kind : (c : ℕ) → goodPiece c ≡ true → kindOf c < 9 → unkind 
 plain-kind c g h =
     eqb-true _ _ (or-right _ _ (lt-leb 9 (kindOf c) h) (not-false _ (any-each (λ c. not (leb 9 (kindOf c) || eqb (unkind c) (kindOf c))) 31 c unpromoted-own (piece-small c g))))
 
-pub limit-small : (j : ℕ) → j < 7 → kindRow (j + 1) .limit ≤ 18
-unfolding anyBelow kindRow kinds
-limit-small j h = leb-true _ 18 (not-false _ (any-each (λ j. not (leb (kindRow (j + 1) .limit) 18)) 7 j refl h))
-
--- ---- the other colour
-pub other-good : (c : ℕ) → goodColour c ≡ true → goodColour (otherColour c) ≡ true
-unfolding goodColour otherColour
-other-good c g = by (eqb c 1) (eqb c 2) refl refl g
-  where
-    by : (s t : Bool) → eqb c 1 ≡ s → eqb c 2 ≡ t → s || t ≡ true → eqb (3 - c) 1 || eqb (3 - c) 2 ≡ true
-    by true t a b h = rw (eqb-true c 1 a)
-    by false true a b h = rw (eqb-true c 2 b)
-    by false false a b h = absurd (true≢false (sym h))
-
--- ---- a number that is no kind has no promoted form, and is not held
-no-promoted : (c : ℕ) → goodPiece c ≡ false → promotedPiece c ≡ 0
-unfolding goodPiece promotedPiece
-no-promoted c g = rw (row-bad (kindOf c) g .1)
-
-no-held : (k : ℕ) → goodKind k ≡ false → handKind k ≡ 0
-unfolding handKind
-no-held k g = rw (row-bad k g .0)
-
-small-holds : anyBelow (λ j. not (leb (handKind j) 7)) 15 ≡ false
-unfolding anyBelow handKind kindRow kinds
-small-holds = refl
-
-pub held-small : (k : ℕ) → handKind k ≤ 7
-held-small k =
-    ⊎-elim (λ (h : k ≤ 14). leb-true _ 7 (not-false _ (any-each (λ j. not (leb (handKind j) 7)) 15 k small-holds (omega arith))))
-    (λ (h : 14 < k). omega (arith, no-held k (kind-high k h))) (le-or-lt k 14)
-
--- what a form's answer says
+-- ---- what a form's answer says
 form-value : (r : FormAnswer) (t : Bool) (v : ℕ) → (t ≡ false → v ≡ 0) → formGiven r ≡ formIf t v → formGiven r .value ≡ v
 form-value r true v z e = ap (λ (x : FormValue). x .value) e
 form-value r false v z e = ap (λ (x : FormValue). x .value) e ∙ sym (z refl)
@@ -134,10 +99,3 @@ promoted-value r c e = form-value r (goodPiece c) (promotedPiece c) (no-promoted
 pub held-value : (r : FormAnswer) (k : ℕ) → formGiven r ≡ handKindAnswer k → formGiven r .value ≡ handKind k
 unfolding handKindAnswer
 held-value r k e = form-value r (goodKind k) (handKind k) (no-held k) e
-
--- ---- a piece by its colour and its kind
-pub piece-by : (x v : ℕ) → goodCell x ≡ true → goodPiece v ≡ true → eqb (colourOf x) (colourOf v) && eqb (kindOf x) (kindOf v) ≡ eqb x v
-unfolding goodCell goodPiece goodKind colourOf kindOf
-piece-by x v g h =
-    good-cells (λ x. eqb (colourOf x) (colourOf v) && eqb (kindOf x) (kindOf v)) (λ x. eqb x v)
-    (all-at (λ v. allFrom (λ x. Bool·beq (goodCell x && (eqb (colourOf x) (colourOf v) && eqb (kindOf x) (kindOf v))) (goodCell x && eqb x v)) 0 31) 31 tt v (piece-small v h)) x g

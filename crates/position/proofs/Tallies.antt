@@ -1,7 +1,6 @@
 -- How many of a kind stand on the board when a cell is stored, and how many are in the hands when one is taken or dropped.
 use mathlib.Core.Path.{_≡_, refl, sym, ap, _∙_}
-use Prim.Native.Nat.{ℕ, zero, suc, _+_, _-_, _*_, _≤_, _<_}
-use mathlib.Core.Bool.{Bool}
+use Prim.Native.Nat.{ℕ, _+_, _-_, _*_, _≤_, _<_}
 use mathlib.Core.List.{List}
 use native.Mathlib.Omega.{arith}
 use native.Mathlib.Decide.{ℕ-discrete}
@@ -12,30 +11,13 @@ use lib.Arith.{lt-of-le-ne}
 use borrow.Author.Tests.{eq-eqb, ne-eqb}
 use Rattle.squares.specs.Bit.{digit}
 use Rattle.squares.specs.Kinds.{kindRow, kinds, handKind, kindOf}
-use Rattle.squares.specs.Sets.{countOf}
-use Rattle.squares.proofs.Laws.{count-same}
+use Rattle.squares.proofs.Laws.{count-change}
 use Rattle.position.specs.Machine.{cellAt}
 use Rattle.position.specs.Sound.{standing}
 use Rattle.position.specs.Answers.{handAt}
 use Rattle.position.specs.Moves.{held, spent}
 use Rattle.position.proofs.Stores.{cell-same, cell-other}
 use Rattle.position.proofs.Pieces.{unkind}
-
--- ---- a count when one number's test changes
-count-change : (f g : ℕ → Bool) (i k n : ℕ) → i ≤ n → n < i + k → ((m : ℕ) → i ≤ m → (m ≡ n → ⊥) → g m ≡ f m)
-    → countOf g i k + digit (f n) ≡ countOf f i k + digit (g n)
-unfolding countOf
-count-change f g i zero n l u h = absurd (omega arith)
-count-change f g i (suc k) n l u h = by (ℕ-discrete i n) (λ q. count-change f g (suc i) k n q (omega arith) (λ m a d. h m (omega arith) d))
-  where
-    by : Dec (i ≡ n) → (suc i ≤ n → countOf g (suc i) k + digit (f n) ≡ countOf f (suc i) k + digit (g n))
-        → (digit (g i) + countOf g (suc i) k) + digit (f n) ≡ (digit (f i) + countOf f (suc i) k) + digit (g n)
-    by (yes e) r =
-        let s = count-same g f (suc i) (suc i) k (λ j q. h (suc i + j) (omega arith) (λ z. omega arith)) in
-        rw (s, e) (omega arith)
-    by (no d) r =
-        let q = r (lt-of-le-ne l d) in
-        rw (h i (omega arith) d) (omega arith)
 
 -- the count of a kind when the cell of n becomes v
 pub standing-store : (cells : List ℕ) (k n v : ℕ) → 1 ≤ n → n ≤ 81 → length cells ≡ 81

@@ -14,7 +14,7 @@ use Rattle.squares.specs.declared.bitboard.Bitboard.{Bitboard}
 use Rattle.squares.specs.Board.{onBoard}
 use Rattle.squares.specs.Kinds.{kinds, kindRow, goodKind, goodPiece, goodCell, goodColour, colourOf, kindOf}
 use Rattle.squares.specs.Sets.{has, setOf, clean, emptyS, andS, orS, size, smallest, withoutS}
-use Rattle.squares.proofs.Laws.{both, decided, all-at, allFrom, rows-truth, le-or-lt, board-on, board-range, has-setOf, setOf-cong, clean-setOf, clean-has, and-rules, or-rules, First, smallest-is, smallest-at, smallest-none, size-without, size-none, has-withoutS, has-off, size-rule, count-same, cell-piece, piece-kind, black-kind}
+use Rattle.squares.proofs.Laws.{both, decided, all-at, allFrom, rows-truth, le-or-lt, board-on, board-range, has-setOf, setOf-cong, clean-setOf, clean-has, and-rules, or-rules, First, smallest-is, smallest-at, smallest-none, size-without, size-none, has-withoutS, has-off, size-rule, count-same, cell-piece, piece-kind, black-kind, piece-by}
 use Rattle.position.specs.Machine.{Sized, cellAt, family}
 use Rattle.position.specs.Sound.{anyBelow, disagrees, faultyAt, readingAt, firstFault, strayIn, kingWrong, standing, overLimit, goodLast, faultElsewhere, sound}
 use Rattle.position.specs.Inner.{MarksOf, Compared, Tidy, TidyTold, kingOff, promotedAt, setsSize, overBySets}
@@ -23,7 +23,6 @@ use Rattle.position.specs.declared.sound.Marks.{Marks}
 use Rattle.position.specs.declared.position.Position.{Position}
 use Rattle.squares.proofs.Laws.{length-tab, getD-tab, is-tab}
 use Rattle.position.proofs.Agree.{any-all, any-each, any-same, or-false-both, beq-false, beq-same}
-use Rattle.position.proofs.Pieces.{piece-by}
 use Rattle.position.proofs.Kings.{KingIs, king-is, king-right}
 use Rattle.position.proofs.Reading.{reading-range, reading-all, first-none, first-all}
 

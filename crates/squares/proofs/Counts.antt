@@ -1,11 +1,12 @@
 -- The count of a set's members is the count of its words' bits.
 use mathlib.Core.Path.{_≡_, refl, sym, ap, ap₂, _∙_}
-use Prim.Native.Nat.{ℕ, zero, suc, _+_, _/_, _%_, _^_, _<_}
+use Prim.Native.Nat.{ℕ, zero, suc, _+_, _/_, _%_, _^_, _≤_, _<_}
 use mathlib.Core.Bool.{Bool, _&&_}
 use native.Mathlib.Nat.{pow-suc, zero-add, suc-add, add-zero, add-suc, add-assoc, mod-lt}
 use native.Mathlib.Omega.{arith}
+use native.Mathlib.Decide.{ℕ-discrete}
 use lib.Dec.{eqb}
-use lib.Arith.{lt-one}
+use lib.Arith.{lt-one, lt-of-le-ne}
 use lib.Bits.{bitAnd, mask-lt}
 use lib.Count.{ones, ones-step}
 use Rattle.squares.specs.Bit.{odd, bit, digit}
@@ -71,3 +72,19 @@ pub size-rule : (f : ℕ → Bool) → size (setOf f) ≡ countOf f 1 81
 unfolding size
 size-rule f =
     count-same (has (setOf f)) f 1 1 81 (λ e l. has-setOf f (1 + e) ∙ ap (λ (t : Bool). t && f (1 + e)) (board-on 9 (1 + e) (omega arith) (omega arith)))
+
+-- a count when one number's test changes
+pub count-change : (f g : ℕ → Bool) (i k n : ℕ) → i ≤ n → n < i + k → ((m : ℕ) → i ≤ m → (m ≡ n → ⊥) → g m ≡ f m)
+    → countOf g i k + digit (f n) ≡ countOf f i k + digit (g n)
+unfolding countOf
+count-change f g i zero n l u h = absurd (omega arith)
+count-change f g i (suc k) n l u h = by (ℕ-discrete i n) (λ q. count-change f g (suc i) k n q (omega arith) (λ m a d. h m (omega arith) d))
+  where
+    by : Dec (i ≡ n) → (suc i ≤ n → countOf g (suc i) k + digit (f n) ≡ countOf f (suc i) k + digit (g n))
+        → (digit (g i) + countOf g (suc i) k) + digit (f n) ≡ (digit (f i) + countOf f (suc i) k) + digit (g n)
+    by (yes e) r =
+        let s = count-same g f (suc i) (suc i) k (λ j q. h (suc i + j) (omega arith) (λ z. omega arith)) in
+        rw (s, e) (omega arith)
+    by (no d) r =
+        let q = r (lt-of-le-ne l d) in
+        rw (h i (omega arith) d) (omega arith)

@@ -19,12 +19,13 @@ pub use Rattle.squares.proofs.Steps.{step-off, step-zero, step-none, st
 pub use Rattle.squares.proofs.Members.{le-or-lt, has-setOf, setOf-cong, setOf-has, clean-setOf, clean-has, has-off, has-on, has-emptyS}
 pub use Rattle.squares.proofs.ByCell.{by-cell-at, by-cell-last}
 pub use Rattle.squares.proofs.Tests.{all, all-at, allFrom, rows-truth}
-pub use Rattle.squares.proofs.Counts.{count-same, count-add, count-sum, size-rule}
+pub use Rattle.squares.proofs.Counts.{count-same, count-add, count-sum, count-change, size-rule}
 pub use Rattle.squares.proofs.Least.{First, smallest-is, smallest-at, smallest-none, size-without, count-none, size-none, size-le, empty-size, empty-none, empty-some, empty-has}
 pub use Rattle.squares.proofs.Least.{Popped, pop-square, pop-nothing}
 pub use Rattle.squares.proofs.Numbers.{kind-range, colour-range, colour-good, colour-low, colour-high, cell-piece, cell-zero, piece-cell, piece-kind, piece-low-bound}
 pub use Rattle.squares.proofs.Numbers.{piece-low, piece-gap, piece-high, piece-black, piece-white, row-bad, promoted-small, letter-small, kind-good, kind-low, kind-high}
 pub use Rattle.squares.proofs.Numbers.{black-kind, white-kind, black-colour, white-colour, empty-colour, bad-cells, good-cells}
+pub use Rattle.squares.proofs.Numbers.{piece-small, piece-by, other-good, no-promoted, no-held, held-small, limit-small}
 pub use Rattle.squares.proofs.Unique.{one-number, one-form, one-set, one-truth, one-pattern, one-pop}
 
 -- ---- the members of each operation's set

@@ -1,15 +1,16 @@
--- Which numbers are no kind, no colour and no piece. The rest of what is said of kinds is read off their table, kind by kind.
+-- Which numbers are no kind, no colour and no piece, and what the table of kinds says of all kinds and all good cells at once. The
+-- rest of what is said of kinds is read off their table, kind by kind.
 use mathlib.Core.Path.{_≡_, refl, sym, ap, _∙_}
-use mathlib.Core.Bool.{Bool, true, false, not, _&&_, _||_, Bool·beq, or-true, false≢true}
+use mathlib.Core.Bool.{Bool, true, false, not, _&&_, _||_, Bool·beq, or-true, true≢false, false≢true}
 use mathlib.Core.Logic.{inl, inr, ⊎-elim}
 use mathlib.Core.List.{[], _∷_}
-use Prim.Native.Nat.{ℕ, zero, suc, _-_, _≤_, _<_}
+use Prim.Native.Nat.{ℕ, zero, suc, _+_, _-_, _≤_, _<_}
 use native.Mathlib.Omega.{arith}
 use lib.Dec.{T, eqb, leb, leb→le}
 use lib.ListN.{List·getD-eq-default}
 use types.Run.{OneOf}
 use borrow.Author.Tests.{le-leb, lt-leb, ne-eqb, eqb-true}
-use Rattle.squares.specs.Kinds.{Kind, kinds, kindRow, goodKind, goodColour, colourOf, kindOf, goodPiece, goodCell}
+use Rattle.squares.specs.Kinds.{Kind, kinds, kindRow, goodKind, handKind, goodColour, otherColour, colourOf, kindOf, goodPiece, goodCell, promotedPiece}
 use Rattle.squares.proofs.Steps.{in-range, decided}
 use Rattle.squares.proofs.Members.{le-or-lt}
 use Rattle.squares.proofs.Tests.{allFrom, all-at, rows-truth}
@@ -188,3 +189,45 @@ good-cells f g t c e =
     (λ (l : 30 < c). absurd (false≢true (cell-bad c (omega arith) (piece-high c (omega arith)) ∙ e)))
     (le-or-lt c 30) in
     sym (ap (λ (x : Bool). x && f c) e) ∙ at ∙ ap (λ (x : Bool). x && g c) e
+
+pub piece-small : (c : ℕ) → goodPiece c ≡ true → c < 31
+piece-small c g = ⊎-elim (λ (h : 31 ≤ c). absurd (true≢false (sym g ∙ piece-high c h))) (λ (h : c < 31). h) (le-or-lt 31 c)
+
+-- ---- a piece by its colour and its kind
+pub piece-by : (x v : ℕ) → goodCell x ≡ true → goodPiece v ≡ true → eqb (colourOf x) (colourOf v) && eqb (kindOf x) (kindOf v) ≡ eqb x v
+unfolding goodCell goodPiece goodKind colourOf kindOf
+piece-by x v g h =
+    good-cells (λ x. eqb (colourOf x) (colourOf v) && eqb (kindOf x) (kindOf v)) (λ x. eqb x v)
+    (all-at (λ v. allFrom (λ x. Bool·beq (goodCell x && (eqb (colourOf x) (colourOf v) && eqb (kindOf x) (kindOf v))) (goodCell x && eqb x v)) 0 31) 31 tt v (piece-small v h)) x g
+
+-- ---- the other colour
+pub other-good : (c : ℕ) → goodColour c ≡ true → goodColour (otherColour c) ≡ true
+unfolding goodColour otherColour
+other-good c g = by (eqb c 1) (eqb c 2) refl refl g
+  where
+    by : (s t : Bool) → eqb c 1 ≡ s → eqb c 2 ≡ t → s || t ≡ true → eqb (3 - c) 1 || eqb (3 - c) 2 ≡ true
+    by true t a b h = rw (eqb-true c 1 a)
+    by false true a b h = rw (eqb-true c 2 b)
+    by false false a b h = absurd (true≢false (sym h))
+
+-- ---- a number that is no kind has no promoted form, and is not held
+pub no-promoted : (c : ℕ) → goodPiece c ≡ false → promotedPiece c ≡ 0
+unfolding goodPiece promotedPiece
+no-promoted c g = rw (row-bad (kindOf c) g .1)
+
+pub no-held : (k : ℕ) → goodKind k ≡ false → handKind k ≡ 0
+unfolding handKind
+no-held k g = rw (row-bad k g .0)
+
+held-few : (k : ℕ) → k < 15 → handKind k ≤ 7
+unfolding handKind kindRow kinds
+held-few k h = leb→le _ _ (all-at (λ j. leb (handKind j) 7) 15 tt k h)
+
+pub held-small : (k : ℕ) → handKind k ≤ 7
+held-small k =
+    ⊎-elim (λ (h : k ≤ 14). held-few k (omega arith)) (λ (h : 14 < k). omega (arith, no-held k (kind-high k h))) (le-or-lt k 14)
+
+-- ---- how many of a hand kind a full set has
+pub limit-small : (j : ℕ) → j < 7 → kindRow (j + 1) .limit ≤ 18
+unfolding kindRow kinds
+limit-small j h = leb→le _ _ (all-at (λ i. leb (kindRow (i + 1) .limit) 18) 7 tt j h)

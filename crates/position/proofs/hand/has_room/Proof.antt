@@ -1,7 +1,8 @@
 use Prim.Native.Nat.{_≤_}
 use borrow.Author.Tests.{eq-eqb, ne-eqb}
 use Rattle.position.specs.Steps.{roomFor}
-use Rattle.position.proofs.Pieces.{held-small, positive}
+use Rattle.squares.proofs.Laws.{held-small}
+use Rattle.position.proofs.Pieces.{positive}
 use borrow.Author.Needs.{needs}
 use Rattle.position.proofs.hand.has_room.Statement.{statement}
 use Rattle.position.proofs.hand.has_room.Tie as tie

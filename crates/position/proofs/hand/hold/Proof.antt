@@ -3,7 +3,8 @@ use Prim.Native.Nat.{_≤_}
 use native.Mathlib.Omega.{arith}
 use borrow.Author.Tests.{eq-eqb, ne-eqb}
 use Rattle.position.specs.Moves.{held}
-use Rattle.position.proofs.Pieces.{held-small, positive}
+use Rattle.squares.proofs.Laws.{held-small}
+use Rattle.position.proofs.Pieces.{positive}
 use Rattle.position.proofs.hand.hold.Statement.{statement}
 use Rattle.position.proofs.hand.hold.Tie as tie
 
