@@ -1,3 +1,4 @@
+use native.Mathlib.Omega.{arith}
 use mathlib.Core.Path.{sym, ap, _∙_}
 use mathlib.Core.Bool.{true≢false}
 use Rattle.squares.specs.Answers.{setGiven}
@@ -15,4 +16,4 @@ returns-2 c = let s = c .before .before .before .before in
     absurd (true≢false (sym (board-on 9 (s .args .n) (s .pre .low) (s .pre .high)) ∙ q))
 
 pub single-spec : {M : Type 1} → statement M
-single-spec = tie.close (tie.spec (search needs) (search needs) (search needs) (search needs) returns returns-2)
+single-spec = tie.close (tie.spec (search needs) (λ c. omega arith) (λ c. omega arith) (λ c κs. tt) returns returns-2)

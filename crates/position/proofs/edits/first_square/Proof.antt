@@ -1,5 +1,5 @@
+use native.Mathlib.Omega.{arith}
 use mathlib.Core.Path.{sym, ap, _∙_}
-use borrow.Author.Needs.{needs}
 use Rattle.squares.specs.Answers.{popGiven}
 use Rattle.position.proofs.Editing.{popped-first, popped-none}
 use Rattle.position.proofs.edits.first_square.Statement.{statement}
@@ -12,4 +12,4 @@ returns-2 : tie.Need-returns-2
 returns-2 c = popped-none _ _ (ap popGiven (sym (c .enum-told .given .1)) ∙ c .before .before .pop .ensures)
 
 pub first-square-spec : {M : Type 1} → statement M
-first-square-spec = tie.close (tie.spec (search needs) (search needs) (search needs) returns returns-2)
+first-square-spec = tie.close (tie.spec (λ c κs. tt) (λ c. omega arith) (λ c. omega arith) returns returns-2)

@@ -1,4 +1,3 @@
-use borrow.Author.Needs.{needs}
 use Rattle.position.proofs.edits.is_cell.Statement.{statement}
 use Rattle.position.proofs.edits.is_cell.Tie as tie
 
@@ -9,4 +8,4 @@ returns-2 : tie.Need-returns-2
 returns-2 c = rw (← c .before .on-board .ensures, c .if1 .left)
 
 pub is-cell-spec : {M : Type 1} → statement M
-is-cell-spec = tie.close (tie.spec (search needs) (search needs) returns returns-2)
+is-cell-spec = tie.close (tie.spec (λ c κs. tt) (λ c κs. tt) returns returns-2)

@@ -1,5 +1,4 @@
 use mathlib.Core.Path.{_∙_}
-use borrow.Author.Needs.{needs}
 use Rattle.position.proofs.Editing.{settle-refuses, settle-passes}
 use Rattle.position.proofs.edits.settle.Statement.{statement}
 use Rattle.position.proofs.edits.settle.Tie as tie
@@ -15,4 +14,4 @@ returns-2 c =
     c .with-number2 .ensures ∙ settle-passes _ _ (t .soundness .result) (t .soundness .ensures) (c .before .if1 .left)
 
 pub settle-spec : {M : Type 1} → statement M
-settle-spec = tie.close (tie.spec (search needs) (search needs) returns (search needs) returns-2)
+settle-spec = tie.close (tie.spec (λ c κs. tt) (λ c κs. tt) returns (λ c κs. tt) returns-2)

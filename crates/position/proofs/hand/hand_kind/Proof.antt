@@ -1,8 +1,8 @@
+use native.Mathlib.Omega.{arith}
 use mathlib.Core.Path.{sym, ap, _∙_}
 use Rattle.squares.specs.Answers.{formGiven}
 use Rattle.squares.specs.declared.answers.FormAnswer.{FormAnswer}
 use Rattle.position.proofs.Pieces.{held-value}
-use borrow.Author.Needs.{needs}
 use Rattle.position.proofs.hand.hand_kind.Statement.{statement}
 use Rattle.position.proofs.hand.hand_kind.Tie as tie
 
@@ -16,4 +16,4 @@ returns-3 : tie.Need-returns-3
 returns-3 c = ap (λ (r : FormAnswer). formGiven r .value) (sym (c .enum-told2 .given .1)) ∙ rw (← c .before .before .before .kind-of .ensures) (held-value (c .before .before .hand-kind .result) _ (c .before .before .hand-kind .ensures))
 
 pub hand-kind-spec : {M : Type 1} → statement M
-hand-kind-spec = tie.close (tie.spec (search needs) (search needs) (search needs) (search needs) (search needs) returns returns-2 returns-3)
+hand-kind-spec = tie.close (tie.spec (λ c κs. tt) (λ c κs. tt) (λ c. omega arith) (λ c. omega arith) (λ c. omega arith) returns returns-2 returns-3)

@@ -13,4 +13,4 @@ unfolding holds
 returns-2 c = rw (← c .before .kind-of .ensures, lt-leb _ 7 (c .if1 .left))
 
 pub has-piece-spec : {M : Type 1} → statement M
-has-piece-spec = tie.close (tie.spec (search needs) (search needs) returns returns-2)
+has-piece-spec = tie.close (tie.spec (λ c κs. tt) (search needs) returns returns-2)

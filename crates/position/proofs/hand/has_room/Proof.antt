@@ -1,9 +1,9 @@
+use native.Mathlib.Omega.{arith}
 use Prim.Native.Nat.{_≤_}
 use borrow.Author.Tests.{eq-eqb, ne-eqb}
 use Rattle.position.specs.Steps.{roomFor}
 use Rattle.squares.proofs.Laws.{held-small}
 use Rattle.position.proofs.Pieces.{positive}
-use borrow.Author.Needs.{needs}
 use Rattle.position.proofs.hand.has_room.Statement.{statement}
 use Rattle.position.proofs.hand.has_room.Tie as tie
 
@@ -22,4 +22,4 @@ unfolding roomFor
 returns-2 c = rw (← c .before .before .hand-kind .ensures, ne-eqb _ 0 (c .before .if1 .left), ← c .index .ensures .0)
 
 pub has-room-spec : {M : Type 1} → statement M
-has-room-spec = tie.close (tie.spec (search needs) returns index-requires (search needs) returns-2)
+has-room-spec = tie.close (tie.spec (λ c κs. tt) returns index-requires (λ c. omega arith) returns-2)

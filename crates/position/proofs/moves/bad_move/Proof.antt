@@ -1,5 +1,5 @@
+use native.Mathlib.Omega.{arith}
 use Rattle.position.specs.Moves.{badMove}
-use borrow.Author.Needs.{needs}
 use Rattle.position.proofs.moves.bad_move.Statement.{statement}
 use Rattle.position.proofs.moves.bad_move.Tie as tie
 
@@ -22,14 +22,4 @@ returns-4 c = rw (c .before .before .before .m2 .given .1, ← c .before .is-pie
 pub bad-move-spec : {M : Type 1} → statement M
 bad-move-spec =
     tie.close
-    (tie.spec
-    (search needs)
-    (search needs)
-    (search needs)
-    (search needs)
-    (search needs)
-    (search needs)
-    returns
-    returns-2
-    returns-3
-    returns-4)
+    (tie.spec (λ c. omega arith) (λ c κs. tt) (λ c κs. tt) (λ c. omega arith) (λ c κs. tt) (λ c κs. tt) returns returns-2 returns-3 returns-4)

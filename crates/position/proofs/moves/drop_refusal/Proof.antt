@@ -5,7 +5,6 @@ use borrow.Author.Tests.{eq-eqb, ne-eqb}
 use Rattle.squares.specs.Kinds.{colourOf, kindOf}
 use Rattle.position.specs.Answers.{firstFact}
 use Rattle.position.specs.Moves.{dropFacts}
-use borrow.Author.Needs.{needs}
 use Rattle.position.proofs.moves.drop_refusal.Statement.{statement}
 use Rattle.position.proofs.moves.drop_refusal.Tie as tie
 
@@ -50,14 +49,4 @@ returns-6 c = let e = c .before .before in rw (own (e .before .before .before .b
 pub drop-refusal-spec : {M : Type 1} → statement M
 drop-refusal-spec =
     tie.close
-    (tie.spec
-    (search needs)
-    returns
-    (search needs)
-    returns-2
-    returns-3
-    (search needs)
-    returns-4
-    (search needs)
-    returns-5
-    returns-6)
+    (tie.spec (λ c κs. tt) returns (λ c κs. tt) returns-2 returns-3 (λ c κs. tt) returns-4 (λ c κs. tt) returns-5 returns-6)

@@ -1,4 +1,3 @@
-use borrow.Author.Needs.{needs}
 use Rattle.position.proofs.moves.is_king.Statement.{statement}
 use Rattle.position.proofs.moves.is_king.Tie as tie
 
@@ -6,4 +5,4 @@ returns : tie.Need-returns
 returns c = rw (← c .kind-of .ensures)
 
 pub is-king-spec : {M : Type 1} → statement M
-is-king-spec = tie.close (tie.spec (search needs) returns)
+is-king-spec = tie.close (tie.spec (λ c κs. tt) returns)

@@ -12,7 +12,6 @@ use Rattle.position.proofs.Ladder.{CanDrop, drop-passes, rule-refuses, 
 use Rattle.position.proofs.Kept.{drop-carried}
 use Rattle.position.proofs.Halves.{drop-numbers, sound-side, drop-held, drop-fits}
 use Rattle.position.proofs.Playing.{plan-refuses, plan-moves, drop-number, drop-plays}
-use borrow.Author.Needs.{needs}
 use Rattle.position.proofs.moves.make_drop.Statement.{statement}
 use Rattle.position.proofs.moves.make_drop.Tie as tie
 
@@ -56,12 +55,4 @@ returns-2 c = let q = c .before .before in let s = start (q .before) in let k = 
 pub make-drop-spec : {M : Type 1} → statement M
 make-drop-spec =
     tie.close
-    (tie.spec
-    in-hand-requires
-    cell-requires
-    (search needs)
-    (search needs)
-    returns
-    spend-requires
-    (search needs)
-    returns-2)
+    (tie.spec in-hand-requires cell-requires (λ c κs. tt) (λ c κs. tt) returns spend-requires (λ c κs. tt) returns-2)

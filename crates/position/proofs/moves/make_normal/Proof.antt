@@ -14,7 +14,6 @@ use Rattle.position.proofs.Ladder.{CanMove, normal-passes, rule-refuses
 use Rattle.position.proofs.Kept.{normal-carried}
 use Rattle.position.proofs.Halves.{stood-nothing, stood-piece, held-nothing, normal-squares, empty-start, sound-room, normal-fits}
 use Rattle.position.proofs.Playing.{plan-refuses, plan-moves, normal-number, normal-plays}
-use borrow.Author.Needs.{needs}
 use Rattle.position.proofs.moves.make_normal.Statement.{statement}
 use Rattle.position.proofs.moves.make_normal.Tie as tie
 
@@ -97,19 +96,5 @@ returns-3 c = let q = passed (c .before) in let s = from-start (q .before) in le
 pub make-normal-spec : {M : Type 1} → statement M
 make-normal-spec =
     tie.close
-    (tie.spec
-    standing-requires
-    (search needs)
-    (search needs)
-    (search needs)
-    returns
-    cell-requires
-    normal-refusal-requires
-    (search needs)
-    returns-2
-    standing-requires-2
-    (search needs)
-    hold-requires
-    (search needs)
-    (search needs)
-    returns-3)
+    (tie.spec standing-requires (λ c. omega arith) (λ c. omega arith) (λ c κs. tt) returns cell-requires normal-refusal-requires (λ c κs. tt)
+    returns-2 standing-requires-2 (λ c. omega arith) hold-requires (λ c. omega arith) (λ c κs. tt) returns-3)

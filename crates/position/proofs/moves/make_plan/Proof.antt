@@ -1,7 +1,7 @@
+use native.Mathlib.Omega.{arith}
 use Rattle.position.specs.Plans.{Ready}
 use Rattle.position.proofs.Ladder.{told-refuses, told-passes, told-clear}
 use Rattle.position.proofs.Playing.{plan-refuses}
-use borrow.Author.Needs.{needs}
 use Rattle.position.proofs.moves.make_plan.Statement.{statement}
 use Rattle.position.proofs.moves.make_plan.Tie as tie
 
@@ -26,12 +26,4 @@ returns-3 c = let e = c .before .before .before .before in let s = e .before .be
 pub make-plan-spec : {M : Type 1} → statement M
 make-plan-spec =
     tie.close
-    (tie.spec
-    (search needs)
-    returns
-    (search needs)
-    make-normal-requires
-    (search needs)
-    make-drop-requires
-    returns-2
-    returns-3)
+    (tie.spec (λ c κs. tt) returns (λ c. omega arith) make-normal-requires (λ c. omega arith) make-drop-requires returns-2 returns-3)

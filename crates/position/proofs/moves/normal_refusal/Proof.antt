@@ -5,7 +5,6 @@ use borrow.Author.Tests.{ne-eqb}
 use Rattle.squares.specs.Kinds.{colourOf, kindOf, promotedPiece}
 use Rattle.position.specs.Answers.{firstFact}
 use Rattle.position.specs.Moves.{normalFacts}
-use borrow.Author.Needs.{needs}
 use Rattle.position.proofs.moves.normal_refusal.Statement.{statement}
 use Rattle.position.proofs.moves.normal_refusal.Tie as tie
 
@@ -66,15 +65,4 @@ returns-6 c = let h = c .before .before in
 pub normal-refusal-spec : {M : Type 1} → statement M
 normal-refusal-spec =
     tie.close
-    (tie.spec
-    (search needs)
-    returns
-    (search needs)
-    returns-2
-    (search needs)
-    returns-3
-    (search needs)
-    returns-4
-    (search needs)
-    returns-5
-    returns-6)
+    (tie.spec (λ c κs. tt) returns (λ c κs. tt) returns-2 (λ c κs. tt) returns-3 (λ c κs. tt) returns-4 (λ c κs. tt) returns-5 returns-6)

@@ -1,5 +1,5 @@
+use native.Mathlib.Omega.{arith}
 use mathlib.Core.Path.{sym, ap, _∙_}
-use borrow.Author.Needs.{needs}
 use Rattle.squares.specs.Answers.{truthGiven}
 use Rattle.squares.proofs.Laws.{contains-told, contains-refused}
 use Rattle.position.proofs.sound.contains.Statement.{statement}
@@ -16,4 +16,4 @@ returns-2 c =
     sym (contains-refused (a .set) (a .n) _ (ap truthGiven (sym (c .enum-told .given .1)) ∙ c .before .before .contains .ensures))
 
 pub contains-spec : {M : Type 1} → statement M
-contains-spec = tie.close (tie.spec (search needs) (search needs) (search needs) returns returns-2)
+contains-spec = tie.close (tie.spec (λ c κs. tt) (λ c. omega arith) (λ c. omega arith) returns returns-2)

@@ -1,5 +1,5 @@
+use native.Mathlib.Omega.{arith}
 use mathlib.Core.Path.{sym, ap, _∙_}
-use borrow.Author.Needs.{needs}
 use Rattle.squares.specs.Answers.{numberGiven}
 use Rattle.squares.proofs.Laws.{limit-told, limit-refused}
 use Rattle.position.proofs.sound.full_set.Statement.{statement}
@@ -12,4 +12,4 @@ returns-2 : tie.Need-returns-2
 returns-2 c = sym (limit-refused (c .before .before .before .args .kind) _ (ap numberGiven (sym (c .enum-told .given .1)) ∙ c .before .before .limit .ensures))
 
 pub full-set-spec : {M : Type 1} → statement M
-full-set-spec = tie.close (tie.spec (search needs) (search needs) (search needs) (search needs) returns returns-2)
+full-set-spec = tie.close (tie.spec (λ c κs. tt) (λ c. omega arith) (λ c. record { fits = omega arith }) (λ c. omega arith) returns returns-2)

@@ -1,6 +1,6 @@
+use native.Mathlib.Omega.{arith}
 use mathlib.Core.Path.{sym, ap, _∙_}
 use mathlib.Core.Bool.{not}
-use borrow.Author.Needs.{needs}
 use Rattle.squares.specs.Answers.{popGiven}
 use Rattle.position.proofs.Elsewhere.{king-found, king-other, king-nothing}
 use Rattle.position.proofs.sound.king_wrong.Statement.{statement}
@@ -23,4 +23,4 @@ returns-3 c =
     king-nothing (a .set) (a .q) _ (ap popGiven (sym (c .enum-told .given .1)) ∙ c .before .before .pop .ensures)
 
 pub king-wrong-spec : {M : Type 1} → statement M
-king-wrong-spec = tie.close (tie.spec (search needs) (search needs) (search needs) (search needs) returns returns-2 returns-3)
+king-wrong-spec = tie.close (tie.spec (λ c κs. tt) (λ c. omega arith) (λ c κs. tt) (λ c. omega arith) returns returns-2 returns-3)

@@ -1,7 +1,6 @@
 use mathlib.Core.Path.{ap₂, _∙_}
 use mathlib.Core.Bool.{Bool, _&&_}
 use lib.Dec.{eqb, leb}
-use borrow.Author.Needs.{needs}
 use Rattle.position.proofs.Elsewhere.{last-none, last-normal, last-drop, last-bad}
 use Rattle.position.proofs.sound.last_good.Statement.{statement}
 use Rattle.position.proofs.sound.last_good.Tie as tie
@@ -25,4 +24,6 @@ returns-4 : tie.Need-returns-4
 returns-4 c = last-bad (c .before .before .before .args .last) (c .before .before .if1 .left) (c .before .if2 .left) (c .if3 .left)
 
 pub last-good-spec : {M : Type 1} → statement M
-last-good-spec = tie.close (tie.spec (search needs) returns (search needs) (search needs) (search needs) returns-2 (search needs) (search needs) (search needs) returns-3 returns-4)
+last-good-spec =
+    tie.close
+    (tie.spec (λ c κs. tt) returns (λ c κs. tt) (λ c κs. tt) (λ c κs. tt) returns-2 (λ c κs. tt) (λ c κs. tt) (λ c κs. tt) returns-3 returns-4)

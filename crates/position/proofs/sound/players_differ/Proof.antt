@@ -1,6 +1,5 @@
 use mathlib.Core.Path.{_≡_, sym, _∙_}
 use native.Mathlib.Omega.{arith}
-use borrow.Author.Needs.{needs}
 use lib.ListN.{length, length-map}
 use Rattle.position.proofs.Agree.{any-two, any-at, disagrees-is}
 use Rattle.position.proofs.sound.players_differ.Statement.{statement}
@@ -23,4 +22,4 @@ returns-2 c =
     c .unlike2 .ensures ∙ white ∙ any-two _ (sym black ∙ sym (c .before .before .unlike .ensures) ∙ c .before .if1 .left)
 
 pub players-differ-spec : {M : Type 1} → statement M
-players-differ-spec = tie.close (tie.spec (search needs) (search needs) (search needs) (search needs) returns returns-2)
+players-differ-spec = tie.close (tie.spec (λ c. omega arith) (λ c. omega arith) (λ c κs. tt) (λ c κs. tt) returns returns-2)

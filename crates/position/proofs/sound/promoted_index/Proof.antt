@@ -1,7 +1,6 @@
 use Prim.Native.Nat.{_+_}
 use mathlib.Core.Path.{sym, ap, _∙_}
 use native.Mathlib.Omega.{arith}
-use borrow.Author.Needs.{needs}
 use Rattle.squares.specs.Answers.{formGiven}
 use Rattle.squares.proofs.Laws.{promoted-told}
 use Rattle.position.proofs.Elsewhere.{place-form, place-nothing, place-refused}
@@ -22,4 +21,6 @@ returns-3 c = place-refused (c .before .before .before .args .j) (c .before .bef
 
 pub promoted-index-spec : {M : Type 1} → statement M
 promoted-index-spec =
-    tie.close (tie.spec (search needs) (search needs) (search needs) (search needs) sub-result (search needs) (search needs) (search needs) returns returns-2 returns-3)
+    tie.close
+    (tie.spec (λ c. record { fits = omega arith }) (λ c. record { fits = omega arith }) (λ c κs. tt) (λ c. omega arith) sub-result
+    (λ c. record { fits = omega arith }) (λ c. omega arith) (λ c. omega arith) returns returns-2 returns-3)

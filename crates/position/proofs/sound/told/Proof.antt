@@ -1,5 +1,4 @@
 use mathlib.Core.Path.{_∙_}
-use borrow.Author.Needs.{needs}
 use Rattle.position.proofs.Tidiness.{told-bad, told-query}
 use Rattle.position.proofs.sound.told.Statement.{statement}
 use Rattle.position.proofs.sound.told.Tie as tie
@@ -11,4 +10,4 @@ returns-2 : tie.Need-returns-2
 returns-2 c = c .soundness .ensures ∙ told-query _ _ (c .before .if1 .left)
 
 pub told-spec : {M : Type 1} → statement M
-told-spec = tie.close (tie.spec returns (search needs) returns-2)
+told-spec = tie.close (tie.spec returns (λ c κs. tt) returns-2)

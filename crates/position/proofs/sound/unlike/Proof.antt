@@ -1,5 +1,4 @@
 use mathlib.Core.Path.{sym, _∙_}
-use borrow.Author.Needs.{needs}
 use Rattle.position.proofs.Agree.{unlike-yes, unlike-no}
 use Rattle.position.proofs.sound.unlike.Statement.{statement}
 use Rattle.position.proofs.sound.unlike.Tie as tie
@@ -11,4 +10,4 @@ returns-2 : tie.Need-returns-2
 returns-2 c = unlike-no _ _ (sym (c .before .contains .ensures) ∙ c .if1 .left)
 
 pub unlike-spec : {M : Type 1} → statement M
-unlike-spec = tie.close (tie.spec (search needs) returns returns-2)
+unlike-spec = tie.close (tie.spec (λ c κs. tt) returns returns-2)

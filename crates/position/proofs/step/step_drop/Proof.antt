@@ -14,7 +14,6 @@ use Rattle.position.proofs.Sizes.{sized}
 use Rattle.position.proofs.Halves.{drop-numbers}
 use Rattle.position.proofs.Playing.{plan-keeps, plan-steps, drop-plays}
 use Rattle.position.proofs.Stepping.{step-keeps, step-does, step-fits, holds-piece}
-use borrow.Author.Needs.{needs}
 use Rattle.position.proofs.step.step_drop.Statement.{statement}
 use Rattle.position.proofs.step.step_drop.Tie as tie
 
@@ -58,11 +57,4 @@ returns-2 c = let e = c .before .before .before .before in let s = start (e .bef
 pub step-drop-spec : {M : Type 1} → statement M
 step-drop-spec =
     tie.close
-    (tie.spec
-    has-piece-requires
-    (search needs)
-    returns
-    cell-requires
-    spend-requires
-    (search needs)
-    returns-2)
+    (tie.spec has-piece-requires (λ c κs. tt) returns cell-requires spend-requires (λ c κs. tt) returns-2)

@@ -14,7 +14,6 @@ use Rattle.position.proofs.Sizes.{sized}
 use Rattle.position.proofs.Halves.{normal-squares}
 use Rattle.position.proofs.Playing.{plan-keeps, plan-steps, normal-plays}
 use Rattle.position.proofs.Stepping.{step-keeps, step-does, step-fits, room-fits}
-use borrow.Author.Needs.{needs}
 use Rattle.position.proofs.step.step_normal.Statement.{statement}
 use Rattle.position.proofs.step.step_normal.Tie as tie
 
@@ -66,12 +65,4 @@ returns-2 c = let e = c .before .before .before .before in let s = start (e .bef
 pub step-normal-spec : {M : Type 1} → statement M
 step-normal-spec =
     tie.close
-    (tie.spec
-    cell-requires
-    has-room-requires
-    (search needs)
-    returns
-    cell-requires-2
-    hold-requires
-    (search needs)
-    returns-2)
+    (tie.spec cell-requires has-room-requires (λ c κs. tt) returns cell-requires-2 hold-requires (λ c κs. tt) returns-2)

@@ -1,9 +1,9 @@
+use native.Mathlib.Omega.{arith}
 use mathlib.Core.Path.{sym, _∙_}
 use borrow.Author.Tests.{eq-eqb, ne-eqb, not-true, not-false}
 use Rattle.position.specs.Plans.{Steppable}
 use Rattle.position.proofs.Playing.{plan-keeps}
 use Rattle.position.proofs.Stepping.{step-bad, step-nobody, step-last}
-use borrow.Author.Needs.{needs}
 use Rattle.position.proofs.step.step_plan.Statement.{statement}
 use Rattle.position.proofs.step.step_plan.Tie as tie
 
@@ -40,18 +40,5 @@ returns-5 c = rw (c .before .before .m2 .given .1) (c .step-drop .ensures)
 pub step-plan-spec : {M : Type 1} → statement M
 step-plan-spec =
     tie.close
-    (tie.spec
-    (search needs)
-    (search needs)
-    returns
-    (search needs)
-    (search needs)
-    returns-2
-    (search needs)
-    returns-3
-    (search needs)
-    step-normal-requires
-    (search needs)
-    step-drop-requires
-    returns-4
-    returns-5)
+    (tie.spec (λ c κs. tt) (λ c κs. tt) returns (λ c κs. tt) (λ c κs. tt) returns-2 (λ c κs. tt) returns-3 (λ c. omega arith) step-normal-requires
+    (λ c. omega arith) step-drop-requires returns-4 returns-5)

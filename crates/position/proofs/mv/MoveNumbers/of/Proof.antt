@@ -1,4 +1,4 @@
-use borrow.Author.Needs.{needs}
+use native.Mathlib.Omega.{arith}
 use Rattle.position.specs.Moves.{numbersOf}
 use Rattle.position.proofs.mv.MoveNumbers.of.Statement.{statement}
 use Rattle.position.proofs.mv.MoveNumbers.of.Tie as tie
@@ -16,4 +16,4 @@ unfolding numbersOf
 returns-3 c = rw (c .before .m2 .given .1)
 
 pub of-spec : {M : Type 1} → statement M
-of-spec = tie.close (tie.spec (search needs) (search needs) returns returns-2 returns-3)
+of-spec = tie.close (tie.spec (λ c. omega arith) (λ c. omega arith) returns returns-2 returns-3)

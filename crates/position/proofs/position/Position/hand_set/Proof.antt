@@ -1,6 +1,6 @@
+use native.Mathlib.Omega.{arith}
 use mathlib.Core.Path.{_≡_, ap, _∙_}
 use mathlib.Core.Bool.{Bool, not, _&&_}
-use borrow.Author.Needs.{needs}
 use Rattle.squares.specs.Kinds.{goodColour}
 use Rattle.position.specs.Machine.{machine}
 use Rattle.position.specs.Answers.{toldQuery, goodHandKind}
@@ -39,4 +39,4 @@ returns-2 c =
     (c .settle .ensures ∙ edit-settles _ _ _ (t .told .result) (heard t) _ (e .if1 .left) (same-cells (s .args .self) (size s) (done-sound _ _ _ (heard t) (e .if1 .left)) _ _ _ _))
 
 pub hand-set-spec : {M : Type 1} → statement M
-hand-set-spec = tie.close (tie.spec (search needs) (search needs) returns index-requires (search needs) (search needs) returns-2)
+hand-set-spec = tie.close (tie.spec (λ c κs. tt) (λ c κs. tt) returns index-requires (λ c. omega arith) (λ c κs. tt) returns-2)

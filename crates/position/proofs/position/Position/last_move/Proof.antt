@@ -1,4 +1,3 @@
-use borrow.Author.Needs.{needs}
 use Rattle.position.proofs.Asking.{last-refused, last-done}
 use Rattle.position.proofs.position.Position.last_move.Statement.{statement}
 use Rattle.position.proofs.position.Position.last_move.Tie as tie
@@ -10,4 +9,4 @@ returns-2 : tie.Need-returns-2
 returns-2 c = last-done _ _ (c .before .before .before .before .told .ensures) _ (c .before .before .if1 .left) (c .last-of .ensures)
 
 pub last-move-spec : {M : Type 1} → statement M
-last-move-spec = tie.close (tie.spec (search needs) returns (search needs) returns-2)
+last-move-spec = tie.close (tie.spec (λ c κs. tt) returns (λ c κs. tt) returns-2)

@@ -1,5 +1,4 @@
 use Rattle.position.specs.Plans.{playedBy}
-use borrow.Author.Needs.{needs}
 use Rattle.position.proofs.position.Position.make_move.Statement.{statement}
 use Rattle.position.proofs.position.Position.make_move.Tie as tie
 
@@ -24,4 +23,4 @@ returns c = let q = c .before .before .before in rw (c .toggle3 .ensures, c .bef
 
 pub make-move-spec : {M : Type 1} → statement M
 make-move-spec =
-    tie.close (tie.spec (search needs) (search needs) make-plan-requires store-requires toggle-requires toggle-requires-2 toggle-requires-3 returns)
+    tie.close (tie.spec (λ c κs. tt) (λ c κs. tt) make-plan-requires store-requires toggle-requires toggle-requires-2 toggle-requires-3 returns)

@@ -1,7 +1,7 @@
+use native.Mathlib.Omega.{arith}
 use mathlib.Core.Path.{_∙_}
 use mathlib.Core.Bool.{not}
 use lib.Dec.{eqb}
-use borrow.Author.Needs.{needs}
 use Rattle.position.specs.Answers.{occupiedAnswer}
 use Rattle.position.proofs.Sizes.{sized}
 use Rattle.position.proofs.Asking.{done-sound, set-refused, set-done, occupied-set}
@@ -21,4 +21,4 @@ returns-2 c =
     set-done _ _ _ q (λ x. not (eqb x 0)) _ done (c .or .ensures ∙ occupied-set (s .args .t1) (sized _ _ (s .good .0)) (done-sound _ _ _ q done) _ _)
 
 pub occupied-bitboard-spec : {M : Type 1} → statement M
-occupied-bitboard-spec = tie.close (tie.spec (search needs) (search needs) returns (search needs) (search needs) (search needs) returns-2)
+occupied-bitboard-spec = tie.close (tie.spec (λ c κs. tt) (λ c κs. tt) returns (λ c. omega arith) (λ c. omega arith) (λ c κs. tt) returns-2)

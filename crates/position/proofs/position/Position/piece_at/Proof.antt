@@ -1,7 +1,6 @@
 use mathlib.Core.Path.{_≡_, ap, _∙_}
 use mathlib.Core.Bool.{Bool, not}
 use borrow.Author.Tests.{not-false}
-use borrow.Author.Needs.{needs}
 use Rattle.squares.specs.Board.{onBoard}
 use Rattle.squares.proofs.Laws.{board-range}
 use Rattle.position.specs.Answers.{toldQuery}
@@ -26,4 +25,4 @@ returns-2 : tie.Need-returns-2
 returns-2 c = piece-done _ _ _ (query (c .before .before .before .before .before)) _ (c .before .before .before .if1 .left) (c .standing .ensures)
 
 pub piece-at-spec : {M : Type 1} → statement M
-piece-at-spec = tie.close (tie.spec (search needs) (search needs) returns standing-requires returns-2)
+piece-at-spec = tie.close (tie.spec (λ c κs. tt) (λ c κs. tt) returns standing-requires returns-2)

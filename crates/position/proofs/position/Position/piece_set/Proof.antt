@@ -3,7 +3,6 @@ use mathlib.Core.Bool.{Bool, not, _&&_}
 use Prim.Native.Nat.{_-_, _≤_}
 use native.Mathlib.Omega.{arith}
 use lib.ListN.{set}
-use borrow.Author.Needs.{needs}
 use Rattle.squares.specs.Board.{onBoard}
 use Rattle.squares.specs.Kinds.{goodCell}
 use Rattle.position.specs.Answers.{toldQuery}
@@ -58,4 +57,6 @@ returns-2 c =
 
 pub piece-set-spec : {M : Type 1} → statement M
 piece-set-spec =
-    tie.close (tie.spec (search needs) (search needs) returns sub-at (search needs) array-write-board with-board-requires (search needs) returns-2)
+    tie.close
+    (tie.spec (λ c κs. tt) (λ c κs. tt) returns sub-at (λ c. record { fits = omega arith }) array-write-board with-board-requires (λ c κs. tt)
+    returns-2)

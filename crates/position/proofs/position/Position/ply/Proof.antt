@@ -1,4 +1,3 @@
-use borrow.Author.Needs.{needs}
 use Rattle.position.proofs.Asking.{ply-refused, ply-done}
 use Rattle.position.proofs.position.Position.ply.Statement.{statement}
 use Rattle.position.proofs.position.Position.ply.Tie as tie
@@ -10,4 +9,4 @@ returns-2 : tie.Need-returns-2
 returns-2 c = ply-refused _ _ (c .before .before .told .ensures) (c .if1 .left)
 
 pub ply-spec : {M : Type 1} → statement M
-ply-spec = tie.close (tie.spec (search needs) returns returns-2)
+ply-spec = tie.close (tie.spec (λ c κs. tt) returns returns-2)

@@ -1,6 +1,5 @@
 use mathlib.Core.Path.{_≡_, ap, _∙_}
 use mathlib.Core.Bool.{Bool, not}
-use borrow.Author.Needs.{needs}
 use Rattle.squares.specs.Kinds.{goodColour}
 use Rattle.position.specs.Machine.{machine}
 use Rattle.position.specs.Answers.{toldQuery}
@@ -35,4 +34,4 @@ returns-2 c =
     c .settle .ensures ∙ edit-settles _ _ _ (t .told .result) (heard t) _ (e .if1 .left) (same-cells (s .args .self) (size s) (done-sound _ _ _ (heard t) (e .if1 .left)) _ _ _ _)
 
 pub side-to-move-set-spec : {M : Type 1} → statement M
-side-to-move-set-spec = tie.close (tie.spec (search needs) (search needs) returns (search needs) returns-2)
+side-to-move-set-spec = tie.close (tie.spec (λ c κs. tt) (λ c κs. tt) returns (λ c κs. tt) returns-2)

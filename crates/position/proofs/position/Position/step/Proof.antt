@@ -1,5 +1,4 @@
 use Rattle.position.specs.Plans.{playedBy}
-use borrow.Author.Needs.{needs}
 use Rattle.position.proofs.position.Position.step.Statement.{statement}
 use Rattle.position.proofs.position.Position.step.Tie as tie
 
@@ -21,4 +20,4 @@ returns c = let q = c .before .before .before in rw (c .toggle3 .ensures, c .bef
 
 pub step-spec : {M : Type 1} → statement M
 step-spec =
-    tie.close (tie.spec (search needs) store-requires toggle-requires toggle-requires-2 toggle-requires-3 returns)
+    tie.close (tie.spec (λ c κs. tt) store-requires toggle-requires toggle-requires-2 toggle-requires-3 returns)
