@@ -1,5 +1,6 @@
--- What a crate above may cite: a sound position is the position of its machine, make_move and the step on it, whole games,
--- and the edits.
+-- What a crate above may cite: a value of the program's type is sized, a sound position is the position of its machine,
+-- make_move and the step on it, whole games, and the edits.
+pub use Rattle.position.proofs.Sizes.{sized}
 pub use Rattle.position.proofs.Kings.{KingIs}
 pub use Rattle.position.proofs.InOrder.{InOrder, Sized, sound-full, sound-order, order-sound}
 pub use Rattle.position.proofs.Ladder.{CanMove, CanDrop, normal-passes, drop-passes}

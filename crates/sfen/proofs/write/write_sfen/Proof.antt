@@ -1,11 +1,11 @@
-use Prim.Native.Nat.{ℕ, _≤_}
+use Prim.Native.Nat.{_≤_}
 use mathlib.Core.Path.{_≡_, refl}
 use mathlib.Core.Bool.{true}
 use native.Mathlib.Omega.{arith}
-use lib.ListN.{length, take, length-map}
+use lib.ListN.{length, take}
 use borrow.Author.Needs.{needs}
 use Rattle.position.specs.Sound.{sound}
-use Rattle.position.proofs.Laws.{Sized}
+use Rattle.position.proofs.Laws.{Sized, sized}
 use Rattle.sfen.specs.Text.{positionText}
 use Rattle.sfen.proofs.Bound.{text-bound}
 use Rattle.sfen.proofs.Writing.{unsound-refused, sound-passes, written, fitted-small}
@@ -13,13 +13,7 @@ use Rattle.sfen.proofs.write.write_sfen.Statement.{statement}
 use Rattle.sfen.proofs.write.write_sfen.Tie as tie
 
 size : (s : tie.Start) → Sized (s .args .t1)
-size s =
-    record {
-      board = omega (arith, length-map (s .args .t1 .board) (denote.Struct.Field.u8-field .into), s .good);
-      hands = omega (arith, length-map (s .args .t1 .hands) (denote.Struct.Field.u8-field .into), s .good);
-      players = omega (arith, length-map (s .args .t1 .players) (Rattle.squares.proofs.bitboard.Bitboard.the-type .to), s .good);
-      kinds = omega (arith, length-map (s .args .t1 .kinds) (Rattle.squares.proofs.bitboard.Bitboard.the-type .to), s .good);
-    }
+size s = sized _ _ (s .good .0)
 
 passes : (q : tie.Else1) → sound (q .before .before .before .before .args .t1) ≡ true
 passes q = sound-passes _ _ (q .before .before .soundness .ensures) (q .if1 .left)
