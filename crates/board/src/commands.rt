@@ -1,16 +1,9 @@
-// Which command a line gives, and the calls that answer it.
+// The commands: which one a line gives, and the calls that answer it.
 use crate::diagram::show;
 use crate::diagram::show_lamps;
-use crate::help::Command;
-use crate::help::arity;
-use crate::help::command_of;
-use crate::help::say_expected;
-use crate::help::say_help;
-use crate::line::Line;
 use crate::line::Word;
 use crate::line::Words;
-use crate::line::is;
-use crate::line::split;
+use crate::line::place_in;
 use crate::notation::MaybeMove;
 use crate::notation::MaybeNumber;
 use crate::notation::MaybePly;
@@ -22,200 +15,230 @@ use crate::notation::ply;
 use crate::notation::read_move;
 use crate::notation::square;
 use crate::out::say;
-use crate::words::say_answer;
-use crate::words::say_numbers;
+use crate::out::say_first;
+use crate::text::HELP;
+use crate::text::NUMBERS;
+use crate::text::say_line;
 use position::Answer;
 use position::Position;
 use position::SetAnswer;
 use position::Stands;
+use position::Told;
 use sfen::write_sfen;
 use squares::Color;
 
-// Answers the line of the first `n` bytes, and hands back the position after it.
-pub fn obey(p: Position, line: &Line, n: usize) -> Position {
-    let words = split(line, n);
-    let verb = words.verb;
-    if words.count == 0 {
-        say(b"a command is expected: help lists them\n");
-        return p;
+// A command's number is its place here and in the text of `help`. Those before SFEN may change the position.
+const NAMES: [u8; 96] =
+    *b"startposempty   move    put     hand    side    ply     sfen    show    lamps   numbers help    ";
+
+const STARTPOS: usize = 0;
+
+const EMPTY: usize = 1;
+
+const MOVE: usize = 2;
+
+const PUT: usize = 3;
+
+const HAND: usize = 4;
+
+const SIDE: usize = 5;
+
+const PLY: usize = 6;
+
+const SFEN: usize = 7;
+
+const SHOW: usize = 8;
+
+const LAMPS: usize = 9;
+
+const EXPLAIN: usize = 10;
+
+const UNKNOWN: usize = 12;
+
+// Beside the answer numbers: the line is not of the form of its command, and no call was made.
+const MALFORMED: u8 = 255;
+
+// The position after a line, and whether its answer was written.
+pub struct Answered {
+    pub position: Position,
+    pub open: bool,
+}
+
+// Answers a line.
+pub fn obey(p: Position, words: Words) -> Answered {
+    let count = words.count;
+    let command = place_in(&NAMES, words.word(0));
+    if count == 0 {
+        return told(p, say(true, b"a command is expected: help lists them\n"));
     }
-    let command = command_of(line, verb);
-    if words.count != arity(command) {
-        say_expected(command);
-        return p;
+    if count != arity(command) {
+        return told(p, say_expected(command));
     }
+    if command < SFEN {
+        return settle(command, change(command, p, words));
+    }
+    told(p, tell(command, p, words.word(1)))
+}
+
+fn told(position: Position, open: bool) -> Answered {
+    Answered { position, open }
+}
+
+// How many words a command has, itself among them: no line gives an unknown one rightly.
+fn arity(command: usize) -> usize {
     match command {
-        Command::Startpos => begun(Position::startpos()),
-        Command::Empty => begun(Position::empty()),
-        Command::Move | Command::Put | Command::Hand | Command::Side | Command::Ply => {
-            change(command, p, line, words)
-        }
-        _ => {
-            tell(command, p, line, words);
-            p
-        }
+        MOVE | SIDE | PLY | LAMPS => 2,
+        PUT => 3,
+        HAND => 4,
+        UNKNOWN => 0,
+        _ => 1,
     }
 }
 
-fn begun(p: Position) -> Position {
-    say_answer(0);
-    p
+// For a line that is not of the form of its command.
+fn say_expected(command: usize) -> bool {
+    if command == UNKNOWN {
+        return say(true, b"unknown command: help lists them\n");
+    }
+    say_line(say(true, b"expected: "), &HELP, command)
+}
+
+fn say_answer(number: u8) -> bool {
+    say_line(true, &NUMBERS, number as usize)
 }
 
 // The number of a call that hands a position back, in words; then that position.
-fn settle(answer: Answer) -> Position {
-    let told = answer.told;
+fn settle(command: usize, answer: Answer) -> Answered {
+    let number = answer.told.number;
     let position = answer.position;
-    say_answer(told.number);
-    position
+    if number == MALFORMED {
+        return told(position, say_expected(command));
+    }
+    told(position, say_answer(number))
 }
 
-// For a line that is not of the form.
-fn refused(command: Command, p: Position) -> Position {
-    say_expected(command);
-    p
+fn answer(position: Position, number: u8) -> Answer {
+    Answer {
+        position,
+        told: Told { number, square: 0 },
+    }
 }
 
 // The commands that may change the position.
-fn change(command: Command, p: Position, line: &Line, words: Words) -> Position {
-    let first = words.first;
+fn change(command: usize, p: Position, words: Words) -> Answer {
     match command {
-        Command::Move => make_move(p, line, first),
-        Command::Put => put(p, line, words),
-        Command::Hand => hand(p, line, words),
-        Command::Side => set_side(p, line, first),
-        Command::Ply => set_ply(p, line, first),
-        _ => p,
+        STARTPOS => answer(Position::startpos(), 0),
+        EMPTY => answer(Position::empty(), 0),
+        MOVE => make_move(p, words.word(1)),
+        PUT => put(p, words.word(1), words.word(2)),
+        HAND => hand(p, words.word(1), words.word(2), words.word(3)),
+        SIDE => set_side(p, words.word(1)),
+        _ => set_ply(p, words.word(1)),
     }
 }
 
-fn make_move(p: Position, line: &Line, word: Word) -> Position {
-    let MaybeMove::Given(m) = read_move(line, word, p.side) else {
-        return refused(Command::Move, p);
+fn make_move(p: Position, word: Word) -> Answer {
+    let side = p.side_to_move();
+    let MaybeMove::Given(m) = read_move(word, side.value) else {
+        return answer(p, MALFORMED);
     };
-    settle(p.make_move(m))
+    p.make_move(m)
 }
 
-fn put(p: Position, line: &Line, words: Words) -> Position {
-    let first = words.first;
-    let second = words.second;
-    let MaybeNumber::Given(n) = square(line, first) else {
-        return refused(Command::Put, p);
+fn put(p: Position, first: Word, second: Word) -> Answer {
+    let MaybeNumber::Given(n) = square(first) else {
+        return answer(p, MALFORMED);
     };
-    let MaybeNumber::Given(c) = cell(line, second) else {
-        return refused(Command::Put, p);
+    let MaybeNumber::Given(c) = cell(second) else {
+        return answer(p, MALFORMED);
     };
-    settle(p.piece_set(n, c))
+    p.piece_set(n, c)
 }
 
-fn hand(p: Position, line: &Line, words: Words) -> Position {
-    let first = words.first;
-    let second = words.second;
-    let third = words.third;
-    let MaybeNumber::Given(owner) = color(line, first) else {
-        return refused(Command::Hand, p);
+fn hand(p: Position, first: Word, second: Word, third: Word) -> Answer {
+    let MaybeNumber::Given(owner) = color(first) else {
+        return answer(p, MALFORMED);
     };
-    let MaybeNumber::Given(held) = kind(line, second) else {
-        return refused(Command::Hand, p);
+    let MaybeNumber::Given(held) = kind(second) else {
+        return answer(p, MALFORMED);
     };
-    let MaybeNumber::Given(n) = count(line, third) else {
-        return refused(Command::Hand, p);
+    let MaybeNumber::Given(n) = count(third) else {
+        return answer(p, MALFORMED);
     };
-    settle(p.hand_set(owner, held, n))
+    p.hand_set(owner, held, n)
 }
 
-fn set_side(p: Position, line: &Line, word: Word) -> Position {
-    let MaybeNumber::Given(side) = color(line, word) else {
-        return refused(Command::Side, p);
+fn set_side(p: Position, word: Word) -> Answer {
+    let MaybeNumber::Given(side) = color(word) else {
+        return answer(p, MALFORMED);
     };
-    settle(p.side_to_move_set(side))
+    p.side_to_move_set(side)
 }
 
-fn set_ply(p: Position, line: &Line, word: Word) -> Position {
-    let MaybePly::Given(n) = ply(line, word) else {
-        return refused(Command::Ply, p);
+fn set_ply(p: Position, word: Word) -> Answer {
+    let MaybePly::Given(n) = ply(word) else {
+        return answer(p, MALFORMED);
     };
-    settle(p.ply_set(n))
+    p.ply_set(n)
 }
 
 // The commands that only look.
-fn tell(command: Command, p: Position, line: &Line, words: Words) {
-    let first = words.first;
+fn tell(command: usize, p: Position, word: Word) -> bool {
     match command {
-        Command::Sfen => say_sfen(p),
-        Command::Show => show(p),
-        Command::Lamps => lamps(p, line, first),
-        Command::Numbers => say_numbers(),
-        _ => say_help(),
+        SFEN => say_sfen(p),
+        SHOW => show(p),
+        LAMPS => lamps(p, word),
+        EXPLAIN => say(true, &NUMBERS),
+        _ => say(true, &HELP),
     }
 }
 
-fn say_sfen(p: Position) {
+fn say_sfen(p: Position) -> bool {
     let mut text = [0u8; 168];
     let answer = write_sfen(p, &mut text);
-    let told = answer.told;
-    if told.number != 0 {
-        say_answer(told.number);
-        return;
-    }
-    say_first(&text, answer.length);
-    say(b"\n");
-}
-
-// The first n bytes. `io::count` leaves n as it is, and promises that the array has so many.
-fn say_first(text: &[u8; 168], n: usize) {
-    if 168 <= n {
-        say(text);
-        return;
-    }
-    let n = io::count(n as isize, text);
-    let all: &[u8] = text;
-    say(&all[..n]);
+    say(say_first(&text, answer.length), b"\n")
 }
 
 // The set that a word names: a colour's, the occupied or vacant squares, a kind's, or that of the piece on a square.
-fn lamps(p: Position, line: &Line, word: Word) {
-    if is(line, word, b"black") {
-        light(p.player_bitboard(Color::BLACK));
-    } else if is(line, word, b"white") {
-        light(p.player_bitboard(Color::WHITE));
-    } else if is(line, word, b"occupied") {
-        light(p.occupied_bitboard());
-    } else if is(line, word, b"vacant") {
-        light(p.vacant_bitboard());
-    } else {
-        lamps_like(p, line, word);
+fn lamps(p: Position, word: Word) -> bool {
+    match place_in(b"black   white   occupiedvacant  ", word) {
+        0 => light(p.player_bitboard(Color::BLACK)),
+        1 => light(p.player_bitboard(Color::WHITE)),
+        2 => light(p.occupied_bitboard()),
+        3 => light(p.vacant_bitboard()),
+        _ => lamps_like(p, word),
     }
 }
 
-fn lamps_like(p: Position, line: &Line, word: Word) {
-    if let MaybeNumber::Given(k) = kind(line, word) {
-        light(p.piece_kind_bitboard(k));
-        return;
+fn lamps_like(p: Position, word: Word) -> bool {
+    if let MaybeNumber::Given(k) = kind(word) {
+        return light(p.piece_kind_bitboard(k));
     }
-    let MaybeNumber::Given(n) = square(line, word) else {
-        say_expected(Command::Lamps);
-        return;
+    let MaybeNumber::Given(n) = square(word) else {
+        return say_expected(LAMPS);
     };
-    let answer = p.piece_at(n);
+    lamps_at(p, n)
+}
+
+fn lamps_at(p: Position, square: u8) -> bool {
+    let answer = p.piece_at(square);
     let told = answer.told;
     let stands = answer.stands;
     if told.number != 0 {
-        say_answer(told.number);
-        return;
+        return say_answer(told.number);
     }
     match stands {
         Stands::Piece(piece) => light(p.piece_bitboard(piece)),
-        Stands::Nothing => say(b"nothing stands there\n"),
+        Stands::Nothing => say(true, b"nothing stands there\n"),
     }
 }
 
-fn light(answer: SetAnswer) {
+// A set, or why there is none.
+fn light(answer: SetAnswer) -> bool {
     let told = answer.told;
     let set = answer.set;
     if told.number != 0 {
-        say_answer(told.number);
-        return;
+        return say_answer(told.number);
     }
-    show_lamps(set);
+    show_lamps(set)
 }

@@ -1,236 +1,237 @@
 // The board as a person sees it: files 9 to 1 above, ranks a to i at the side. A place is three bytes wide: + or a space,
 // the letter, and * or a space.
-use crate::notation::letter_of;
-use crate::notation::square_at;
+use crate::notation::or_zero;
+use crate::notation::small;
 use crate::out::say;
 use crate::out::say_byte;
 use crate::out::say_number;
 use position::LastMove;
 use position::Move;
 use position::Position;
+use sfen::write_sfen;
 use squares::Bitboard;
 use squares::Color;
-use squares::NumberAnswer;
 use squares::Piece;
 use squares::PieceKind;
 use squares::Square;
 use squares::TruthAnswer;
 
-// The squares that the last move left and reached: 0 where there is none.
-struct Marks {
-    from: u8,
-    to: u8,
-}
+const SIZE: usize = 297;
 
-fn marks_of(last: LastMove) -> Marks {
-    let LastMove::Was(m) = last else {
-        return Marks { from: 0, to: 0 };
-    };
-    match m {
-        Move::Normal { from, to, promote } => Marks { from, to },
-        Move::Drop { piece, to } => Marks { from: 0, to },
-    }
-}
+type Grid = [u8; SIZE];
 
-fn files() {
-    say(b" 9  8  7  6  5  4  3  2  1\n");
-}
+const VACANT: Grid = *b" 9  8  7  6  5  4  3  2  1
+ .  .  .  .  .  .  .  .  .  a
+ .  .  .  .  .  .  .  .  .  b
+ .  .  .  .  .  .  .  .  .  c
+ .  .  .  .  .  .  .  .  .  d
+ .  .  .  .  .  .  .  .  .  e
+ .  .  .  .  .  .  .  .  .  f
+ .  .  .  .  .  .  .  .  .  g
+ .  .  .  .  .  .  .  .  .  h
+ .  .  .  .  .  .  .  .  .  i
+";
 
-// The letter of a rank, a for 1.
-fn say_rank(rank: u8) {
-    match rank {
-        1..=9 => say_byte(b'a' + rank - 1),
-        _ => say(b"?"),
-    }
-}
+// Where the place of 9a begins, the first.
+const FIRST: usize = 27;
 
-fn end_rank(rank: u8) {
-    say(b" ");
-    say_rank(rank);
-    say(b"\n");
-}
-
-pub fn show(p: Position) {
-    let board = p.board;
-    let answer = p.last_move();
-    let last = answer.last;
-    let marks = marks_of(last);
-    files();
-    for rank in 1..10u8 {
-        show_rank(&board, marks, rank);
-    }
-    say(b"Black holds");
-    hand(p, Color::BLACK);
-    say(b"White holds");
-    hand(p, Color::WHITE);
-    turn(p);
-    say_last(last);
-}
-
-fn show_rank(board: &[u8; 81], marks: Marks, rank: u8) {
-    for i in 0..9u8 {
-        let square = square_at(9 - i, rank);
-        show_cell(
-            cell(board, square),
-            square == marks.from || square == marks.to,
-        );
-    }
-    end_rank(rank);
-}
-
-fn cell(board: &[u8; 81], square: u8) -> u8 {
+fn place_of(square: u8) -> usize {
     match square {
         1..=81 => {
-            let at = (square - 1) as usize;
-            board[at]
+            let i = (square - 1) as usize;
+            FIRST + 30 * (i % 9) + 3 * (8 - i / 9)
         }
-        _ => 0,
+        _ => SIZE,
     }
 }
 
-fn show_cell(cell: u8, marked: bool) {
-    match Piece::kind(cell) {
-        NumberAnswer::Number(kind) => {
-            say_byte(if is_promoted(kind) { b'+' } else { b' ' });
-            say_byte(in_case(letter_of(kind), cell));
+// With a byte in one of the three parts of a place.
+fn put(grid: Grid, place: usize, part: usize, b: u8) -> Grid {
+    let mut grid = grid;
+    if place < SIZE - 3 {
+        if part < 3 {
+            grid[place + part] = b;
         }
-        NumberAnswer::BadNumber => say(b" ."),
     }
-    say_byte(if marked { b'*' } else { b' ' });
+    grid
 }
 
-fn is_promoted(kind: u8) -> bool {
-    match PieceKind::unpromote(kind) {
-        NumberAnswer::Number(k) => k != kind,
-        NumberAnswer::BadNumber => false,
-    }
+pub fn show(p: Position) -> bool {
+    let answer = p.last_move();
+    let last = answer.last;
+    let grid = marked(pieces(p), last);
+    let open = say(true, &grid);
+    let open = hand(say(open, b"Black holds"), p, Color::BLACK);
+    let open = hand(say(open, b"White holds"), p, Color::WHITE);
+    let open = turn(open, p);
+    say_last(open, last)
 }
 
-// A capital letter, small for a white piece.
-fn in_case(capital: u8, piece: u8) -> u8 {
-    match Piece::color(piece) {
-        NumberAnswer::Number(color) => small_for(capital, color),
-        NumberAnswer::BadNumber => capital,
-    }
+fn pieces(p: Position) -> Grid {
+    let mut text = [0u8; 168];
+    write_sfen(p, &mut text);
+    drawing(&text)
 }
 
-fn small_for(capital: u8, color: u8) -> u8 {
-    match capital {
-        b'A'..=b'Z' => {
-            if color == Color::WHITE {
-                return capital + 32;
-            }
-            capital
+// The pieces of a position's text, which stand before its first space.
+fn drawing(text: &[u8; 168]) -> Grid {
+    let mut grid = VACANT;
+    let mut place = FIRST;
+    for i in 0..168usize {
+        let b = text[i];
+        if b == b' ' {
+            return grid;
         }
-        _ => capital,
+        let next = drawn(grid, place, b);
+        grid = next;
+        place = passed(place, b);
     }
+    grid
+}
+
+fn drawn(grid: Grid, place: usize, b: u8) -> Grid {
+    match b {
+        b'+' => put(grid, place, 0, b),
+        b'A'..=b'z' => put(grid, place, 1, b),
+        _ => grid,
+    }
+}
+
+// The place of what follows a byte of the text: a + leaves its piece's place, and a slash passes the rank's letter and the
+// newline, which are as wide as a place.
+fn passed(place: usize, b: u8) -> usize {
+    if SIZE <= place {
+        return SIZE;
+    }
+    match b {
+        b'+' => place,
+        b'1'..=b'9' => place + 3 * (b - b'0') as usize,
+        _ => place + 3,
+    }
+}
+
+// With the squares that the last move left and reached.
+fn marked(grid: Grid, last: LastMove) -> Grid {
+    let LastMove::Was(m) = last else {
+        return grid;
+    };
+    match m {
+        Move::Normal { from, to, promote } => mark(mark(grid, from), to),
+        Move::Drop { piece, to } => mark(grid, to),
+    }
+}
+
+fn mark(grid: Grid, square: u8) -> Grid {
+    put(grid, place_of(square), 2, b'*')
 }
 
 // What a colour holds, in the order of the text of a position.
-fn hand(p: Position, color: u8) {
+fn hand(open: bool, p: Position, color: u8) -> bool {
+    let mut open = open;
     let mut none = true;
     for i in 0..7u8 {
-        let kind = 7 - i;
-        let answer = p.hand(color, kind);
+        let answer = p.hand(color, 7 - i);
         let count = answer.value;
         if count != 0 {
             none = false;
-            held(small_for(letter_of(kind), color), count);
+            open = held(open, color, 7 - i, count);
         }
     }
     if none {
-        say(b" nothing");
+        open = say(open, b" nothing");
     }
-    say(b"\n");
+    say(open, b"\n")
 }
 
-fn held(letter: u8, count: u8) {
-    say(b" ");
+fn held(open: bool, color: u8, kind: u8, count: u8) -> bool {
+    let capital = or_zero(PieceKind::letter(kind));
+    let mut open = say(open, b" ");
     if 1 < count {
-        say_number(count as u64);
+        open = say_number(open, count as u64);
     }
-    say_byte(letter);
+    say_byte(
+        open,
+        if color == Color::BLACK {
+            capital
+        } else {
+            small(capital)
+        },
+    )
 }
 
-fn turn(p: Position) {
-    if p.side == Color::BLACK {
-        say(b"Black");
+fn turn(open: bool, p: Position) -> bool {
+    let side = p.side_to_move();
+    let ply = p.ply();
+    let open = if side.value == Color::BLACK {
+        say(open, b"Black")
     } else {
-        say(b"White");
-    }
-    say(b" to move, ply ");
-    say_number(p.ply as u64);
-    say(b"\n");
+        say(open, b"White")
+    };
+    let open = say(open, b" to move, ply ");
+    say(say_number(open, ply.ply as u64), b"\n")
 }
 
 // The last move in the notation in which it is typed.
-fn say_last(last: LastMove) {
+fn say_last(open: bool, last: LastMove) -> bool {
     let LastMove::Was(m) = last else {
-        say(b"No last move\n");
-        return;
+        return say(open, b"No last move\n");
     };
-    say(b"Last move ");
-    match m {
-        Move::Normal { from, to, promote } => say_normal(from, to, promote),
-        Move::Drop { piece, to } => say_drop(piece, to),
-    }
-    say(b", marked *\n");
+    let open = say(open, b"Last move ");
+    let open = match m {
+        Move::Normal { from, to, promote } => say_normal(open, from, to, promote),
+        Move::Drop { piece, to } => say_drop(open, piece, to),
+    };
+    say(open, b", marked *\n")
 }
 
-fn say_normal(from: u8, to: u8, promote: bool) {
-    say_square(from);
-    say_square(to);
+fn say_normal(open: bool, from: u8, to: u8, promote: bool) -> bool {
+    let open = say_square(say_square(open, from), to);
     if promote {
-        say(b"+");
+        return say(open, b"+");
     }
+    open
 }
 
-fn say_drop(piece: u8, to: u8) {
-    match Piece::kind(piece) {
-        NumberAnswer::Number(kind) => say_byte(letter_of(kind)),
-        NumberAnswer::BadNumber => say(b"?"),
-    }
-    say(b"*");
-    say_square(to);
+fn say_drop(open: bool, piece: u8, to: u8) -> bool {
+    let kind = or_zero(Piece::kind(piece));
+    let open = say_byte(open, or_zero(PieceKind::letter(kind)));
+    say_square(say(open, b"*"), to)
 }
 
-fn say_square(square: u8) {
-    match Square::file(square) {
-        NumberAnswer::Number(file) => say_number(file as u64),
-        NumberAnswer::BadNumber => say(b"?"),
-    }
-    match Square::rank(square) {
-        NumberAnswer::Number(rank) => say_rank(rank),
-        NumberAnswer::BadNumber => say(b"?"),
+fn say_square(open: bool, square: u8) -> bool {
+    let open = say_number(open, or_zero(Square::file(square)) as u64);
+    say_byte(open, rank_letter(or_zero(Square::rank(square))))
+}
+
+fn rank_letter(rank: u8) -> u8 {
+    match rank {
+        1..=9 => b'a' + rank - 1,
+        _ => b'?',
     }
 }
 
 // A set of squares as lamps: o where one is lit.
-pub fn show_lamps(set: Bitboard) {
-    files();
-    for rank in 1..10u8 {
-        lamp_rank(set, rank);
-    }
-    say_number(set.count() as u64);
-    say(b" lit\n");
+pub fn show_lamps(set: Bitboard) -> bool {
+    let grid = lamps(set);
+    let open = say(true, &grid);
+    let open = say_number(open, set.count() as u64);
+    say(open, b" lit\n")
 }
 
-fn lamp_rank(set: Bitboard, rank: u8) {
-    for i in 0..9u8 {
-        lamp(set, square_at(9 - i, rank));
-    }
-    end_rank(rank);
-}
-
-fn lamp(set: Bitboard, square: u8) {
-    match set.contains(square) {
-        TruthAnswer::Truth(lit) => {
-            if lit {
-                say(b" o ");
-            } else {
-                say(b" . ");
-            }
+fn lamps(set: Bitboard) -> Grid {
+    let mut grid = VACANT;
+    for square in 1..82u8 {
+        if is_lit(set, square) {
+            let lit = put(grid, place_of(square), 1, b'o');
+            grid = lit;
         }
-        TruthAnswer::BadNumber => say(b" ? "),
+    }
+    grid
+}
+
+fn is_lit(set: Bitboard, square: u8) -> bool {
+    match set.contains(square) {
+        TruthAnswer::Truth(lit) => lit,
+        TruthAnswer::BadNumber => false,
     }
 }

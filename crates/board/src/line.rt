@@ -1,26 +1,104 @@
-// A line and its words. Bytes are read at any place: one past the end reads as 0, so that no caller owes that an index is
-// in range.
+// The words of a line, taken a byte at a time.
+
+// The longest line, and so the longest word.
 pub const ROOM: usize = 64;
 
-pub type Line = [u8; ROOM];
+// How many words are kept: the longest command has four.
+const KEPT: usize = 4;
 
-// The bytes of a line from one place up to another.
 pub struct Word {
-    from: usize,
-    to: usize,
+    pub length: usize,
+    letters: [u8; ROOM],
 }
 
-// The words of a line: how many there are, and the first four. More than four count as five.
+// How many bytes and words a line has so far, whether it ends within a word, and its first words. More bytes or words than
+// there is room for count as one more.
 pub struct Words {
+    pub bytes: usize,
     pub count: usize,
-    pub verb: Word,
-    pub first: Word,
-    pub second: Word,
-    pub third: Word,
+    within: bool,
+    kept: [Word; KEPT],
 }
 
-fn byte(line: &Line, at: usize) -> u8 {
-    if at < ROOM { line[at] } else { 0 }
+impl Word {
+    fn empty() -> Self {
+        Self {
+            length: 0,
+            letters: [b' '; ROOM],
+        }
+    }
+
+    fn then(self, b: u8) -> Self {
+        let at = self.length;
+        let mut letters = self.letters;
+        if at < ROOM {
+            letters[at] = b;
+            return Self {
+                length: at + 1,
+                letters,
+            };
+        }
+        self
+    }
+
+    // One letter, counted from 0; a space past the end.
+    pub fn letter(self, i: usize) -> u8 {
+        let letters = self.letters;
+        if i < ROOM { letters[i] } else { b' ' }
+    }
+}
+
+impl Words {
+    pub fn empty() -> Self {
+        Self {
+            bytes: 0,
+            count: 0,
+            within: false,
+            kept: [Word::empty(); KEPT],
+        }
+    }
+
+    // The line after one more byte, which is not the newline.
+    pub fn then(self, b: u8) -> Self {
+        let kept = self.kept;
+        let count = self.count;
+        let gap = is_gap(b);
+        let count = if gap || self.within {
+            count
+        } else {
+            up_to(count, KEPT + 1)
+        };
+        Self {
+            bytes: up_to(self.bytes, ROOM + 1),
+            count,
+            within: !gap,
+            kept: if gap { kept } else { stored(kept, count, b) },
+        }
+    }
+
+    // One word, counted from 0; the empty word past the last.
+    pub fn word(self, i: usize) -> Word {
+        let kept = self.kept;
+        if i < KEPT { kept[i] } else { Word::empty() }
+    }
+}
+
+// One more, but no more than so many.
+fn up_to(n: usize, most: usize) -> usize {
+    if n < most { n + 1 } else { most }
+}
+
+// The words with one more byte in the last of `count`.
+fn stored(kept: [Word; KEPT], count: usize, b: u8) -> [Word; KEPT] {
+    let mut kept = kept;
+    match count {
+        1..=KEPT => {
+            let word = kept[count - 1];
+            kept[count - 1] = word.then(b);
+        }
+        _ => {}
+    }
+    kept
 }
 
 fn is_gap(b: u8) -> bool {
@@ -30,86 +108,16 @@ fn is_gap(b: u8) -> bool {
     }
 }
 
-// The first place from `from` on, before `end`, where a gap begins or ends.
-fn skip(line: &Line, from: usize, end: usize, gap: bool) -> usize {
-    for i in from..end {
-        let is = is_gap(byte(line, i));
-        if is != gap {
-            return i;
-        }
-    }
-    end
-}
-
-fn word_from(line: &Line, from: usize, end: usize) -> Word {
-    let start = skip(line, from, end, true);
-    Word {
-        from: start,
-        to: skip(line, start, end, false),
-    }
-}
-
-pub fn length(word: Word) -> usize {
-    if word.from < word.to {
-        word.to - word.from
-    } else {
-        0
-    }
-}
-
-// One letter of a word, counted from 0; 0 past its end.
-pub fn letter(line: &Line, word: Word, i: usize) -> u8 {
-    if length(word) <= i {
-        return 0;
-    }
-    let from = word.from;
-    if from < ROOM {
-        if i < ROOM {
-            return byte(line, from + i);
-        }
-    }
-    0
-}
-
-// Whether a word is this one.
-pub fn is(line: &Line, word: Word, name: &[u8]) -> bool {
-    let n = name.len();
-    if length(word) != n {
-        return false;
-    }
+// The place of a word among names of eight letters, shorter ones with spaces behind them; how many there are where it is
+// none of them.
+pub fn place_in(names: &[u8], word: Word) -> usize {
+    let n = names.len();
+    let mut same = false;
     for i in 0..n {
-        if letter(line, word, i) != name[i] {
-            return false;
+        same = (same || i % 8 == 0) && names[i] == word.letter(i % 8);
+        if same && i % 8 == 7 && word.length <= 8 {
+            return i / 8;
         }
     }
-    true
-}
-
-// The words of the first `n` bytes.
-pub fn split(line: &Line, n: usize) -> Words {
-    let verb = word_from(line, 0, n);
-    let first = word_from(line, verb.to, n);
-    let second = word_from(line, first.to, n);
-    let third = word_from(line, second.to, n);
-    let fourth = word_from(line, third.to, n);
-    let count = if length(verb) == 0 {
-        0
-    } else if length(first) == 0 {
-        1
-    } else if length(second) == 0 {
-        2
-    } else if length(third) == 0 {
-        3
-    } else if length(fourth) == 0 {
-        4
-    } else {
-        5
-    };
-    Words {
-        count,
-        verb,
-        first,
-        second,
-        third,
-    }
+    n / 8
 }

@@ -1,13 +1,24 @@
-// What is said, on standard output. Each piece is written at once: whoever types a command sees its answer.
-pub fn say(text: &[u8]) {
-    io::write_all(1, text);
+// What is said, on standard output. Each piece is written at once: whoever types a command sees its answer. Every call tells
+// whether all was written, and is told whether what came before was: after a write that failed nothing more is.
+pub fn say(open: bool, text: &[u8]) -> bool {
+    open && io::write_all(1, text)
 }
 
-pub fn say_byte(b: u8) {
+pub fn say_byte(open: bool, b: u8) -> bool {
     let one = [b];
-    io::write_all(1, &one);
+    say(open, &one)
 }
 
-pub fn say_number(n: u64) {
-    io::print_decimal(1, n);
+pub fn say_number(open: bool, n: u64) -> bool {
+    open && io::print_decimal(1, n)
+}
+
+// The first n bytes. `io::count` leaves n as it is, and promises that the array has so many.
+pub fn say_first(text: &[u8; 168], n: usize) -> bool {
+    if 168 <= n {
+        return say(true, text);
+    }
+    let n = io::count(n as isize, text);
+    let all: &[u8] = text;
+    say(true, &all[..n])
 }

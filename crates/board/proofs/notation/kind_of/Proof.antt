@@ -5,6 +5,6 @@ use Rattle.board.proofs.notation.kind_of.Tie as tie
 
 pub kind-of-spec : {M : Type 1} → statement M
 kind-of-spec =
-    tie.close (tie.spec (λ _ _ _ _. Unit) (λ _ _ _ kind. 9 - kind)
+    tie.close (tie.spec (λ _ _ _. Unit) (λ _ _ kind. 9 - kind)
     (search needs) (search needs) (search needs) (search needs) (search needs) (search needs) (search needs)
-    (search needs))
+    (search needs) (search needs))
