@@ -1,7 +1,8 @@
 // The commands: which one a line gives, and the calls that answer it.
 use crate::diagram::show;
 use crate::diagram::show_lamps;
-use crate::line::Word;
+use crate::line::Letters;
+use crate::line::ROOM;
 use crate::line::Words;
 use crate::line::place_in;
 use crate::notation::MaybeMove;
@@ -14,107 +15,135 @@ use crate::notation::kind;
 use crate::notation::ply;
 use crate::notation::read_move;
 use crate::notation::square;
-use crate::out::say;
-use crate::out::say_first;
-use crate::text::HELP;
-use crate::text::NUMBERS;
+use crate::text::FORMS;
+use crate::text::MISSING;
+use crate::text::NOTHING_THERE;
+use crate::text::TOO_LONG;
+use crate::text::UNKNOWN;
 use crate::text::say_line;
+use crate::text::say_lines;
+use crate::text::say_part;
+use crate::text::text_of;
 use position::Answer;
 use position::Position;
 use position::SetAnswer;
 use position::Stands;
 use position::Told;
-use sfen::write_sfen;
 use squares::Color;
 
-// A command's number is its place here and in the text of `help`. Those before SFEN may change the position.
-const NAMES: [u8; 96] =
-    *b"startposempty   move    put     hand    side    ply     sfen    show    lamps   numbers help    ";
+// A command's number is its place here and among the lines of `help`. Those before SFEN may change the position.
+const NAMES: [u8; 108] =
+    *b"startpos empty    move     put      hand     side     ply      sfen     show     lamps    numbers  help     ";
 
-const STARTPOS: usize = 0;
+const STARTPOS: u8 = 0;
 
-const EMPTY: usize = 1;
+const EMPTY: u8 = 1;
 
-const MOVE: usize = 2;
+const MOVE: u8 = 2;
 
-const PUT: usize = 3;
+const PUT: u8 = 3;
 
-const HAND: usize = 4;
+const HAND: u8 = 4;
 
-const SIDE: usize = 5;
+const SIDE: u8 = 5;
 
-const PLY: usize = 6;
+const PLY: u8 = 6;
 
-const SFEN: usize = 7;
+const SFEN: u8 = 7;
 
-const SHOW: usize = 8;
+const SHOW: u8 = 8;
 
-const LAMPS: usize = 9;
+const LAMPS: u8 = 9;
 
-const EXPLAIN: usize = 10;
+const NUMBERS: u8 = 10;
 
-const UNKNOWN: usize = 12;
+const HELP: u8 = 11;
 
-// Beside the answer numbers: the line is not of the form of its command, and no call was made.
-const MALFORMED: u8 = 255;
-
-// The position after a line, and whether its answer was written.
-pub struct Answered {
+// The position, the line that is being read, and whether to read on.
+pub struct State {
     pub position: Position,
-    pub open: bool,
+    pub line: Letters,
+    pub more: bool,
 }
 
-// Answers a line.
-pub fn obey(p: Position, words: Words) -> Answered {
-    let count = words.count;
-    let command = place_in(&NAMES, words.word(0));
-    if count == 0 {
-        return told(p, say(true, b"a command is expected: help lists them\n"));
+impl State {
+    // Before the first byte of a line.
+    pub fn before(position: Position, more: bool) -> Self {
+        Self {
+            position,
+            line: Letters::empty(),
+            more,
+        }
     }
-    if count != arity(command) {
-        return told(p, say_expected(command));
-    }
-    if command < SFEN {
-        return settle(command, change(command, p, words));
-    }
-    told(p, tell(command, p, words.word(1)))
 }
 
-fn told(position: Position, open: bool) -> Answered {
-    Answered { position, open }
+// Answers a line. After a write that failed nothing more is read: nobody would get the answer.
+pub fn obey(p: Position, line: Letters) -> State {
+    let words = Words::of(line, 1);
+    let verb = words.wanted;
+    let command = command_of(verb);
+    let fault = fault_of(line.length, words.count, command);
+    if fault != 0 {
+        return State::before(p, say_line(fault));
+    }
+    if SFEN <= command {
+        return State::before(p, tell(command, p, word(line, 2)));
+    }
+    settle(change(command, p, line))
+}
+
+fn word(line: Letters, place: usize) -> Letters {
+    let words = Words::of(line, place);
+    words.wanted
+}
+
+fn command_of(verb: Letters) -> u8 {
+    place_in(&NAMES, verb)
+}
+
+// What the answer says, then its position.
+fn settle(answer: Answer) -> State {
+    let told = answer.told;
+    let position = answer.position;
+    State::before(position, say_line(told.number))
+}
+
+// The line that says what is wrong with a command's words, or 0.
+fn fault_of(length: usize, count: usize, command: u8) -> u8 {
+    if ROOM < length {
+        TOO_LONG
+    } else if count == 0 {
+        MISSING
+    } else if count != arity(command) {
+        form_of(command)
+    } else {
+        0
+    }
+}
+
+// The line of a command's form.
+fn form_of(command: u8) -> u8 {
+    if command <= HELP {
+        FORMS + command
+    } else {
+        UNKNOWN
+    }
 }
 
 // How many words a command has, itself among them: no line gives an unknown one rightly.
-fn arity(command: usize) -> usize {
+fn arity(command: u8) -> usize {
     match command {
         MOVE | SIDE | PLY | LAMPS => 2,
         PUT => 3,
         HAND => 4,
-        UNKNOWN => 0,
-        _ => 1,
+        STARTPOS..=HELP => 1,
+        _ => 0,
     }
 }
 
-// For a line that is not of the form of its command.
-fn say_expected(command: usize) -> bool {
-    if command == UNKNOWN {
-        return say(true, b"unknown command: help lists them\n");
-    }
-    say_line(say(true, b"expected: "), &HELP, command)
-}
-
-fn say_answer(number: u8) -> bool {
-    say_line(true, &NUMBERS, number as usize)
-}
-
-// The number of a call that hands a position back, in words; then that position.
-fn settle(command: usize, answer: Answer) -> Answered {
-    let number = answer.told.number;
-    let position = answer.position;
-    if number == MALFORMED {
-        return told(position, say_expected(command));
-    }
-    told(position, say_answer(number))
+// The position as given, and the line that says why.
+fn refused(command: u8, p: Position) -> Answer {
+    answer(p, form_of(command))
 }
 
 fn answer(position: Position, number: u8) -> Answer {
@@ -125,83 +154,83 @@ fn answer(position: Position, number: u8) -> Answer {
 }
 
 // The commands that may change the position.
-fn change(command: usize, p: Position, words: Words) -> Answer {
+fn change(command: u8, p: Position, line: Letters) -> Answer {
     match command {
         STARTPOS => answer(Position::startpos(), 0),
         EMPTY => answer(Position::empty(), 0),
-        MOVE => make_move(p, words.word(1)),
-        PUT => put(p, words.word(1), words.word(2)),
-        HAND => hand(p, words.word(1), words.word(2), words.word(3)),
-        SIDE => set_side(p, words.word(1)),
-        _ => set_ply(p, words.word(1)),
+        MOVE => make_move(p, word(line, 2)),
+        PUT => put(p, word(line, 2), word(line, 3)),
+        HAND => hand(p, word(line, 2), word(line, 3), word(line, 4)),
+        SIDE => set_side(p, word(line, 2)),
+        _ => set_ply(p, word(line, 2)),
     }
 }
 
-fn make_move(p: Position, word: Word) -> Answer {
+fn make_move(p: Position, word: Letters) -> Answer {
     let side = p.side_to_move();
     let MaybeMove::Given(m) = read_move(word, side.value) else {
-        return answer(p, MALFORMED);
+        return refused(MOVE, p);
     };
     p.make_move(m)
 }
 
-fn put(p: Position, first: Word, second: Word) -> Answer {
+fn put(p: Position, first: Letters, second: Letters) -> Answer {
     let MaybeNumber::Given(n) = square(first) else {
-        return answer(p, MALFORMED);
+        return refused(PUT, p);
     };
     let MaybeNumber::Given(c) = cell(second) else {
-        return answer(p, MALFORMED);
+        return refused(PUT, p);
     };
     p.piece_set(n, c)
 }
 
-fn hand(p: Position, first: Word, second: Word, third: Word) -> Answer {
+fn hand(p: Position, first: Letters, second: Letters, third: Letters) -> Answer {
     let MaybeNumber::Given(owner) = color(first) else {
-        return answer(p, MALFORMED);
+        return refused(HAND, p);
     };
     let MaybeNumber::Given(held) = kind(second) else {
-        return answer(p, MALFORMED);
+        return refused(HAND, p);
     };
     let MaybeNumber::Given(n) = count(third) else {
-        return answer(p, MALFORMED);
+        return refused(HAND, p);
     };
     p.hand_set(owner, held, n)
 }
 
-fn set_side(p: Position, word: Word) -> Answer {
+fn set_side(p: Position, word: Letters) -> Answer {
     let MaybeNumber::Given(side) = color(word) else {
-        return answer(p, MALFORMED);
+        return refused(SIDE, p);
     };
     p.side_to_move_set(side)
 }
 
-fn set_ply(p: Position, word: Word) -> Answer {
+fn set_ply(p: Position, word: Letters) -> Answer {
     let MaybePly::Given(n) = ply(word) else {
-        return answer(p, MALFORMED);
+        return refused(PLY, p);
     };
     p.ply_set(n)
 }
 
 // The commands that only look.
-fn tell(command: usize, p: Position, word: Word) -> bool {
+fn tell(command: u8, p: Position, word: Letters) -> bool {
     match command {
         SFEN => say_sfen(p),
         SHOW => show(p),
         LAMPS => lamps(p, word),
-        EXPLAIN => say(true, &NUMBERS),
-        _ => say(true, &HELP),
+        NUMBERS => say_lines(true, 0, FORMS),
+        _ => say_lines(true, FORMS, UNKNOWN - FORMS),
     }
 }
 
+// The text has no newline of its own.
 fn say_sfen(p: Position) -> bool {
-    let mut text = [0u8; 168];
-    let answer = write_sfen(p, &mut text);
-    say(say_first(&text, answer.length), b"\n")
+    let text = text_of(p);
+    say_part(true, &text, 0, 1)
 }
 
 // The set that a word names: a colour's, the occupied or vacant squares, a kind's, or that of the piece on a square.
-fn lamps(p: Position, word: Word) -> bool {
-    match place_in(b"black   white   occupiedvacant  ", word) {
+fn lamps(p: Position, word: Letters) -> bool {
+    match place_in(b"black    white    occupied vacant   ", word) {
         0 => light(p.player_bitboard(Color::BLACK)),
         1 => light(p.player_bitboard(Color::WHITE)),
         2 => light(p.occupied_bitboard()),
@@ -210,12 +239,12 @@ fn lamps(p: Position, word: Word) -> bool {
     }
 }
 
-fn lamps_like(p: Position, word: Word) -> bool {
+fn lamps_like(p: Position, word: Letters) -> bool {
     if let MaybeNumber::Given(k) = kind(word) {
         return light(p.piece_kind_bitboard(k));
     }
     let MaybeNumber::Given(n) = square(word) else {
-        return say_expected(LAMPS);
+        return say_line(form_of(LAMPS));
     };
     lamps_at(p, n)
 }
@@ -225,11 +254,11 @@ fn lamps_at(p: Position, square: u8) -> bool {
     let told = answer.told;
     let stands = answer.stands;
     if told.number != 0 {
-        return say_answer(told.number);
+        return say_line(told.number);
     }
     match stands {
         Stands::Piece(piece) => light(p.piece_bitboard(piece)),
-        Stands::Nothing => say(true, b"nothing stands there\n"),
+        Stands::Nothing => say_line(NOTHING_THERE),
     }
 }
 
@@ -238,7 +267,7 @@ fn light(answer: SetAnswer) -> bool {
     let told = answer.told;
     let set = answer.set;
     if told.number != 0 {
-        return say_answer(told.number);
+        return say_line(told.number);
     }
     show_lamps(set)
 }

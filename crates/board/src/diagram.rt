@@ -5,10 +5,10 @@ use crate::notation::small;
 use crate::out::say;
 use crate::out::say_byte;
 use crate::out::say_number;
+use crate::text::text_of;
 use position::LastMove;
 use position::Move;
 use position::Position;
-use sfen::write_sfen;
 use squares::Bitboard;
 use squares::Color;
 use squares::Piece;
@@ -59,18 +59,13 @@ fn put(grid: Grid, place: usize, part: usize, b: u8) -> Grid {
 pub fn show(p: Position) -> bool {
     let answer = p.last_move();
     let last = answer.last;
-    let grid = marked(pieces(p), last);
+    let text = text_of(p);
+    let grid = marked(drawing(&text), last);
     let open = say(true, &grid);
-    let open = hand(say(open, b"Black holds"), p, Color::BLACK);
-    let open = hand(say(open, b"White holds"), p, Color::WHITE);
+    let open = hand(open, p, Color::BLACK);
+    let open = hand(open, p, Color::WHITE);
     let open = turn(open, p);
     say_last(open, last)
-}
-
-fn pieces(p: Position) -> Grid {
-    let mut text = [0u8; 168];
-    write_sfen(p, &mut text);
-    drawing(&text)
 }
 
 // The pieces of a position's text, which stand before its first space.
@@ -127,14 +122,14 @@ fn mark(grid: Grid, square: u8) -> Grid {
 
 // What a colour holds, in the order of the text of a position.
 fn hand(open: bool, p: Position, color: u8) -> bool {
-    let mut open = open;
+    let mut open = say(say_color(open, color), b" holds");
     let mut none = true;
     for i in 0..7u8 {
         let answer = p.hand(color, 7 - i);
         let count = answer.value;
         if count != 0 {
             none = false;
-            open = held(open, color, 7 - i, count);
+            open = held(open, count, letter(color, 7 - i));
         }
     }
     if none {
@@ -143,31 +138,36 @@ fn hand(open: bool, p: Position, color: u8) -> bool {
     say(open, b"\n")
 }
 
-fn held(open: bool, color: u8, kind: u8, count: u8) -> bool {
+fn say_color(open: bool, color: u8) -> bool {
+    if color == Color::BLACK {
+        say(open, b"Black")
+    } else {
+        say(open, b"White")
+    }
+}
+
+// The letter of a kind, small for White.
+fn letter(color: u8, kind: u8) -> u8 {
     let capital = or_zero(PieceKind::letter(kind));
+    if color == Color::BLACK {
+        capital
+    } else {
+        small(capital)
+    }
+}
+
+fn held(open: bool, count: u8, letter: u8) -> bool {
     let mut open = say(open, b" ");
     if 1 < count {
         open = say_number(open, count as u64);
     }
-    say_byte(
-        open,
-        if color == Color::BLACK {
-            capital
-        } else {
-            small(capital)
-        },
-    )
+    say_byte(open, letter)
 }
 
 fn turn(open: bool, p: Position) -> bool {
     let side = p.side_to_move();
     let ply = p.ply();
-    let open = if side.value == Color::BLACK {
-        say(open, b"Black")
-    } else {
-        say(open, b"White")
-    };
-    let open = say(open, b" to move, ply ");
+    let open = say(say_color(open, side.value), b" to move, ply ");
     say(say_number(open, ply.ply as u64), b"\n")
 }
 
@@ -176,36 +176,34 @@ fn say_last(open: bool, last: LastMove) -> bool {
     let LastMove::Was(m) = last else {
         return say(open, b"No last move\n");
     };
-    let open = say(open, b"Last move ");
-    let open = match m {
-        Move::Normal { from, to, promote } => say_normal(open, from, to, promote),
-        Move::Drop { piece, to } => say_drop(open, piece, to),
-    };
+    let open = say_move(say(open, b"Last move "), m);
     say(open, b", marked *\n")
 }
 
-fn say_normal(open: bool, from: u8, to: u8, promote: bool) -> bool {
-    let open = say_square(say_square(open, from), to);
-    if promote {
-        return say(open, b"+");
+fn say_move(open: bool, m: Move) -> bool {
+    match m {
+        Move::Normal { from, to, promote } => {
+            let open = say_square(say_square(open, from), to);
+            if promote { say(open, b"+") } else { open }
+        }
+        Move::Drop { piece, to } => {
+            let capital = letter(Color::BLACK, or_zero(Piece::kind(piece)));
+            say_square(say(say_byte(open, capital), b"*"), to)
+        }
     }
-    open
-}
-
-fn say_drop(open: bool, piece: u8, to: u8) -> bool {
-    let kind = or_zero(Piece::kind(piece));
-    let open = say_byte(open, or_zero(PieceKind::letter(kind)));
-    say_square(say(open, b"*"), to)
 }
 
 fn say_square(open: bool, square: u8) -> bool {
-    let open = say_number(open, or_zero(Square::file(square)) as u64);
-    say_byte(open, rank_letter(or_zero(Square::rank(square))))
+    let letters = [
+        coordinate(b"123456789", or_zero(Square::file(square))),
+        coordinate(b"abcdefghi", or_zero(Square::rank(square))),
+    ];
+    say(open, &letters)
 }
 
-fn rank_letter(rank: u8) -> u8 {
-    match rank {
-        1..=9 => b'a' + rank - 1,
+fn coordinate(letters: &[u8; 9], n: u8) -> u8 {
+    match n {
+        1..=9 => letters[(n - 1) as usize],
         _ => b'?',
     }
 }

@@ -1,104 +1,83 @@
-// The words of a line, taken a byte at a time.
+// A line and its words.
 
-// The longest line, and so the longest word.
+// The longest line.
 pub const ROOM: usize = 64;
 
-// How many words are kept: the longest command has four.
-const KEPT: usize = 4;
-
-pub struct Word {
+// The bytes of a line or of a word, with spaces behind them, and how many there are: one more than fit where there were more.
+pub struct Letters {
     pub length: usize,
-    letters: [u8; ROOM],
+    bytes: [u8; ROOM],
 }
 
-// How many bytes and words a line has so far, whether it ends within a word, and its first words. More bytes or words than
-// there is room for count as one more.
-pub struct Words {
-    pub bytes: usize,
-    pub count: usize,
-    within: bool,
-    kept: [Word; KEPT],
-}
-
-impl Word {
-    fn empty() -> Self {
+impl Letters {
+    pub fn empty() -> Self {
         Self {
             length: 0,
-            letters: [b' '; ROOM],
+            bytes: [b' '; ROOM],
         }
     }
 
-    fn then(self, b: u8) -> Self {
+    pub fn then(self, b: u8) -> Self {
         let at = self.length;
-        let mut letters = self.letters;
+        let mut bytes = self.bytes;
         if at < ROOM {
-            letters[at] = b;
+            bytes[at] = b;
             return Self {
                 length: at + 1,
-                letters,
+                bytes,
             };
         }
-        self
+        Self {
+            length: ROOM + 1,
+            bytes,
+        }
     }
 
-    // One letter, counted from 0; a space past the end.
-    pub fn letter(self, i: usize) -> u8 {
-        let letters = self.letters;
-        if i < ROOM { letters[i] } else { b' ' }
+    // One byte, counted from 0; a space past the end.
+    pub fn at(self, i: usize) -> u8 {
+        let bytes = self.bytes;
+        if i < ROOM { bytes[i] } else { b' ' }
     }
+}
+
+// How many words there are so far, whether the last goes on, and the one that is wanted.
+pub struct Words {
+    pub count: usize,
+    within: bool,
+    pub wanted: Letters,
 }
 
 impl Words {
-    pub fn empty() -> Self {
-        Self {
-            bytes: 0,
+    // The words of a line; the one at a place, counted from 1, is wanted.
+    pub fn of(line: Letters, place: usize) -> Self {
+        let mut words = Self {
             count: 0,
             within: false,
-            kept: [Word::empty(); KEPT],
+            wanted: Letters::empty(),
+        };
+        for i in 0..ROOM {
+            words = words.then(line.at(i), place);
         }
+        words
     }
 
-    // The line after one more byte, which is not the newline.
-    pub fn then(self, b: u8) -> Self {
-        let kept = self.kept;
-        let count = self.count;
-        let gap = is_gap(b);
-        let count = if gap || self.within {
-            count
+    fn then(self, b: u8, place: usize) -> Self {
+        let wanted = self.wanted;
+        let count = if self.within || is_gap(b) {
+            self.count
         } else {
-            up_to(count, KEPT + 1)
+            up_to(self.count, ROOM)
         };
         Self {
-            bytes: up_to(self.bytes, ROOM + 1),
             count,
-            within: !gap,
-            kept: if gap { kept } else { stored(kept, count, b) },
+            within: !is_gap(b),
+            wanted: if is_gap(b) || count != place {
+                wanted
+            } else {
+                wanted.then(b)
+            },
         }
     }
-
-    // One word, counted from 0; the empty word past the last.
-    pub fn word(self, i: usize) -> Word {
-        let kept = self.kept;
-        if i < KEPT { kept[i] } else { Word::empty() }
-    }
-}
-
-// One more, but no more than so many.
-fn up_to(n: usize, most: usize) -> usize {
-    if n < most { n + 1 } else { most }
-}
-
-// The words with one more byte in the last of `count`.
-fn stored(kept: [Word; KEPT], count: usize, b: u8) -> [Word; KEPT] {
-    let mut kept = kept;
-    match count {
-        1..=KEPT => {
-            let word = kept[count - 1];
-            kept[count - 1] = word.then(b);
-        }
-        _ => {}
-    }
-    kept
 }
 
 fn is_gap(b: u8) -> bool {
@@ -108,16 +87,21 @@ fn is_gap(b: u8) -> bool {
     }
 }
 
-// The place of a word among names of eight letters, shorter ones with spaces behind them; how many there are where it is
-// none of them.
-pub fn place_in(names: &[u8], word: Word) -> usize {
+// One more, but no more than so many.
+fn up_to(n: usize, most: usize) -> usize {
+    if n < most { n + 1 } else { most }
+}
+
+// The place of a word among names that take nine bytes each, with at least one space behind the letters; 255
+// where it is none of them.
+pub fn place_in(names: &[u8], word: Letters) -> u8 {
     let n = names.len();
     let mut same = false;
     for i in 0..n {
-        same = (same || i % 8 == 0) && names[i] == word.letter(i % 8);
-        if same && i % 8 == 7 && word.length <= 8 {
-            return i / 8;
+        same = names[i] == word.at(i % 9) && (same || i % 9 == 0);
+        if same && i % 9 == 8 {
+            return (i / 9 % 256) as u8;
         }
     }
-    n / 8
+    255
 }

@@ -1,5 +1,5 @@
 // Squares, pieces, moves and numbers as shogi programs write them: 7g, +p, 8h2b+, P*5e.
-use crate::line::Word;
+use crate::line::Letters;
 use position::Move;
 use squares::Color;
 use squares::FormAnswer;
@@ -45,19 +45,19 @@ fn square_of(file: u8, rank: u8) -> MaybeNumber {
     }
 }
 
-pub fn square(word: Word) -> MaybeNumber {
+pub fn square(word: Letters) -> MaybeNumber {
     if word.length != 2 {
         return MaybeNumber::Malformed;
     }
-    square_of(word.letter(0), word.letter(1))
+    square_of(word.at(0), word.at(1))
 }
 
 // b or w.
-pub fn color(word: Word) -> MaybeNumber {
+pub fn color(word: Letters) -> MaybeNumber {
     if word.length != 1 {
         return MaybeNumber::Malformed;
     }
-    match word.letter(0) {
+    match word.at(0) {
         b'b' => MaybeNumber::Given(Color::BLACK),
         b'w' => MaybeNumber::Given(Color::WHITE),
         _ => MaybeNumber::Malformed,
@@ -82,17 +82,17 @@ pub fn small(capital: u8) -> u8 {
     }
 }
 
-// Upper case is Black's.
-fn color_of(b: u8) -> u8 {
-    match b {
-        b'A'..=b'Z' => Color::BLACK,
-        _ => Color::WHITE,
-    }
-}
-
 // The piece of a colour that a letter in either case names, or 0.
 fn piece_of(b: u8, color: u8) -> u8 {
     or_zero(Piece::new(kind_of(b), color))
+}
+
+// Upper case is Black's.
+fn colored(b: u8) -> u8 {
+    match b {
+        b'A'..=b'Z' => piece_of(b, Color::BLACK),
+        _ => piece_of(b, Color::WHITE),
+    }
 }
 
 fn promoted(piece: u8) -> u8 {
@@ -102,41 +102,40 @@ fn promoted(piece: u8) -> u8 {
     }
 }
 
-// 0 is no piece.
-fn given(piece: u8) -> MaybeNumber {
-    if piece == 0 {
+// P, or +P; 0 for what is no piece.
+fn piece(word: Letters) -> u8 {
+    let n = word.length;
+    match n {
+        1 => colored(word.at(0)),
+        2 => {
+            if word.at(0) == b'+' {
+                return promoted(colored(word.at(1)));
+            }
+            0
+        }
+        _ => 0,
+    }
+}
+
+// 0 is none.
+fn given(n: u8) -> MaybeNumber {
+    if n == 0 {
         return MaybeNumber::Malformed;
     }
-    MaybeNumber::Given(piece)
+    MaybeNumber::Given(n)
 }
 
-// P, or +P.
-fn piece(word: Word) -> MaybeNumber {
-    let a = word.letter(0);
-    let b = word.letter(1);
-    if word.length == 1 {
-        return given(piece_of(a, color_of(a)));
-    }
-    if word.length == 2 && a == b'+' {
-        return given(promoted(piece_of(b, color_of(b))));
-    }
-    MaybeNumber::Malformed
-}
-
-// The same, or a point for the empty cell.
-pub fn cell(word: Word) -> MaybeNumber {
-    if word.length == 1 && word.letter(0) == b'.' {
+// A piece, or a point for the empty cell.
+pub fn cell(word: Letters) -> MaybeNumber {
+    if word.length == 1 && word.at(0) == b'.' {
         return MaybeNumber::Given(0);
     }
-    piece(word)
+    given(piece(word))
 }
 
 // The kind of a piece in either case.
-pub fn kind(word: Word) -> MaybeNumber {
-    let MaybeNumber::Given(n) = piece(word) else {
-        return MaybeNumber::Malformed;
-    };
-    MaybeNumber::Given(or_zero(Piece::kind(n)))
+pub fn kind(word: Letters) -> MaybeNumber {
+    given(or_zero(Piece::kind(piece(word))))
 }
 
 // The number so far with one more digit; 65536 and up for what is too large or no number.
@@ -151,11 +150,11 @@ fn grown(value: u64, b: u8) -> u64 {
 }
 
 // A number below 65536 in decimal.
-pub fn ply(word: Word) -> MaybePly {
+pub fn ply(word: Letters) -> MaybePly {
     let mut value: u64 = 0;
     let n = word.length;
     for i in 0..n {
-        value = grown(value, word.letter(i));
+        value = grown(value, word.at(i));
     }
     if value < 65536 {
         return MaybePly::Given(value as u16);
@@ -164,7 +163,7 @@ pub fn ply(word: Word) -> MaybePly {
 }
 
 // A number below 256.
-pub fn count(word: Word) -> MaybeNumber {
+pub fn count(word: Letters) -> MaybeNumber {
     let MaybePly::Given(n) = ply(word) else {
         return MaybeNumber::Malformed;
     };
@@ -175,40 +174,47 @@ pub fn count(word: Word) -> MaybeNumber {
 }
 
 // A move of `side`: from, to and a + where it promotes; or a piece, * and where it is dropped.
-pub fn read_move(word: Word, side: u8) -> MaybeMove {
-    let a = word.letter(0);
-    let b = word.letter(1);
-    let d = word.letter(3);
-    let e = word.letter(4);
+pub fn read_move(word: Letters, side: u8) -> MaybeMove {
     let n = word.length;
     match n {
         4 => {
-            if b == b'*' {
-                return dropped(piece_of(a, side), square_of(word.letter(2), d));
+            if word.at(1) == b'*' {
+                return dropped(
+                    piece_of(word.at(0), side),
+                    square_of(word.at(2), word.at(3)),
+                );
             }
             moved(word, false)
         }
         5 => {
-            if e == b'+' {
+            if word.at(4) == b'+' {
                 return moved(word, true);
             }
-            if a == b'+' && word.letter(2) == b'*' {
-                return dropped(promoted(piece_of(b, side)), square_of(d, e));
-            }
-            MaybeMove::Malformed
+            promoted_drop(word, side)
         }
         _ => MaybeMove::Malformed,
     }
 }
 
-fn moved(word: Word, promote: bool) -> MaybeMove {
-    let MaybeNumber::Given(from) = square_of(word.letter(0), word.letter(1)) else {
+fn moved(word: Letters, promote: bool) -> MaybeMove {
+    let MaybeNumber::Given(from) = square_of(word.at(0), word.at(1)) else {
         return MaybeMove::Malformed;
     };
-    let MaybeNumber::Given(to) = square_of(word.letter(2), word.letter(3)) else {
+    let MaybeNumber::Given(to) = square_of(word.at(2), word.at(3)) else {
         return MaybeMove::Malformed;
     };
     MaybeMove::Given(Move::Normal { from, to, promote })
+}
+
+// +P*5e, which the call refuses.
+fn promoted_drop(word: Letters, side: u8) -> MaybeMove {
+    if word.at(0) == b'+' && word.at(2) == b'*' {
+        return dropped(
+            promoted(piece_of(word.at(1), side)),
+            square_of(word.at(3), word.at(4)),
+        );
+    }
+    MaybeMove::Malformed
 }
 
 fn dropped(piece: u8, to: MaybeNumber) -> MaybeMove {

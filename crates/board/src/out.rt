@@ -12,13 +12,3 @@ pub fn say_byte(open: bool, b: u8) -> bool {
 pub fn say_number(open: bool, n: u64) -> bool {
     open && io::print_decimal(1, n)
 }
-
-// The first n bytes. `io::count` leaves n as it is, and promises that the array has so many.
-pub fn say_first(text: &[u8; 168], n: usize) -> bool {
-    if 168 <= n {
-        return say(true, text);
-    }
-    let n = io::count(n as isize, text);
-    let all: &[u8] = text;
-    say(true, &all[..n])
-}

@@ -1,10 +1,12 @@
-// The lines that explain the commands and the answer numbers, each at its own number's place, from 0.
+// The lines that are said whole: the answer numbers in the words of document 01, each at its own place from 0; the commands
+// in their order; and what else may be wrong with a line.
 ghost use Prim.Native.Nat.{_≤_};
 ghost use lib.ListN.{length};
 use crate::out::say;
+use position::Position;
+use sfen::write_sfen;
 
-// In the words of document 01.
-pub const NUMBERS: [u8; 530] = *b"0: done
+const TEXT: [u8; 1190] = *b"0: done
 1: position not sound, with the square
 2: a number out of range: square, file, pattern, kind, colour, cell, shift, ply 0, hand kind
 3: nothing on the from square
@@ -18,10 +20,7 @@ pub const NUMBERS: [u8; 530] = *b"0: done
 11: ply is already 65535
 12: lent buffer shorter than the text
 13: the edit would make the position unsound
-";
-
-// The commands in their order.
-pub const HELP: [u8; 528] = *b"startpos: the start position
+startpos: the start position
 empty: no piece
 move 7g7f, move 8h2b+ (promotes), move P*5e (drops): a move
 put 5e P, put 5e +p, put 5e . (nothing): changes one cell
@@ -33,12 +32,47 @@ show: the board, upper case is Black's
 lamps black (white, occupied, vacant), lamps P, lamps 7g (pieces like that one): a set of squares
 numbers: what the answer numbers mean
 help: these lines
+unknown command: help lists them
+a command is expected: help lists them
+line too long: help lists the commands
+nothing stands there
 ";
 
-// Says one line of a text.
-pub fn say_line(open: bool, text: &[u8], line: usize) -> bool {
-    let from = after(text, 0, line);
-    let to = after(text, from, 1);
+// The places of the first command, of an unknown one, which goes on from them, and of the others.
+pub const FORMS: u8 = 14;
+
+pub const UNKNOWN: u8 = 26;
+
+pub const MISSING: u8 = 27;
+
+pub const TOO_LONG: u8 = 28;
+
+pub const NOTHING_THERE: u8 = 29;
+
+// Says one line; of a command, that its form is expected.
+pub fn say_line(line: u8) -> bool {
+    if FORMS <= line && line < UNKNOWN {
+        return say_lines(say(true, b"expected: "), line, 1);
+    }
+    say_lines(true, line, 1)
+}
+
+// Says so many lines, from one on.
+pub fn say_lines(open: bool, first: u8, count: u8) -> bool {
+    say_part(open, &TEXT, first as usize, count as usize)
+}
+
+// The position's text, with newlines behind it.
+pub fn text_of(p: Position) -> [u8; 168] {
+    let mut text = [b'\n'; 168];
+    write_sfen(p, &mut text);
+    text
+}
+
+// So many lines of a text, from one on.
+pub fn say_part(open: bool, text: &[u8], first: usize, count: usize) -> bool {
+    let from = after(text, 0, first);
+    let to = after(text, from, count);
     say(open, &text[from..to])
 }
 

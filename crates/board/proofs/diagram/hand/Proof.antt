@@ -7,4 +7,5 @@ pub hand-spec : {M : Type 1} → statement M
 hand-spec =
     tie.close (tie.spec (λ _ _ _ _ _ _ _ _ _ _ _. Unit) (λ _ _ _ _ _ _ _ _ _ _ i. 7 - i)
     (search needs) (search needs) (search needs) (search needs) (search needs) (search needs) (search needs)
-    (search needs) (search needs) (search needs) (search needs) (search needs) (search needs))
+    (search needs) (search needs) (search needs) (search needs) (search needs) (search needs) (search needs)
+    (search needs) (search needs) (search needs))
