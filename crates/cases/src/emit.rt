@@ -1,7 +1,7 @@
 // Answers as text. The text is gathered in an array, which is written out when it is full and before each read.
+use crate::numbers::MALFORMED;
 use crate::numbers::Numbers;
 use crate::numbers::read_u64;
-use crate::ops::MALFORMED;
 
 pub const ROOM: usize = 65536;
 
@@ -39,9 +39,14 @@ impl Gathered {
     fn put_number(self, out: &mut Bytes, n: u64) -> Self {
         let mut text = [0u8; 20];
         let digits = io::decimal(n, &mut text);
+        self.put_bytes(out, &text[..digits])
+    }
+
+    fn put_bytes(self, out: &mut Bytes, bytes: &[u8]) -> Self {
         let mut gathered = self;
-        for i in 0..digits {
-            gathered = gathered.put_byte(out, digit_at(&text, i));
+        let n = bytes.len();
+        for i in 0..n {
+            gathered = gathered.put_byte(out, bytes[i]);
         }
         gathered
     }
@@ -70,10 +75,6 @@ impl Gathered {
             open: self.open && write_first(out, self.used),
         }
     }
-}
-
-fn digit_at(text: &[u8; 20], i: usize) -> u8 {
-    if i < 20 { text[i] } else { b'0' }
 }
 
 // Writes the first n bytes, and says whether that succeeded. `io::count` leaves n as it is, and promises that the array

@@ -1,11 +1,12 @@
 // Reads case lines on standard input, and writes an answer line for each on standard output.
-mod edit_ops;
+mod change_ops;
 mod emit;
 mod number_ops;
 mod numbers;
 mod ops;
-mod position_ops;
 mod positions;
+mod query_ops;
+mod ranges;
 mod scan;
 mod set_ops;
 mod text_ops;
@@ -40,7 +41,6 @@ impl State {
 
 // Nothing says that the input ends, so the loop counts its turns, from a number that no run uses up.
 fn main() {
-    let mut input = [0u8; ROOM];
     let mut nums = [0u64; MOST];
     let mut ans = [0u64; MOST];
     let mut out = [0u8; ROOM];
@@ -52,30 +52,20 @@ fn main() {
     let mut turns = u64::MAX;
     while turns > 0 && state.more {
         turns -= 1;
-        state = turn(state, &mut input, &mut nums, &mut ans, &mut out);
+        state = turn(state, &mut nums, &mut ans, &mut out);
     }
 }
 
 // One read, and the answers to the lines that end in it. They are written at once: whoever sends a line and waits is
 // answered.
-fn turn(
-    state: State,
-    input: &mut Bytes,
-    nums: &mut Numbers,
-    ans: &mut Numbers,
-    out: &mut Bytes,
-) -> State {
-    let n = fill(input);
+fn turn(state: State, nums: &mut Numbers, ans: &mut Numbers, out: &mut Bytes) -> State {
+    let mut input = [0u8; ROOM];
+    let got = libc::read(0, &mut input);
+    let n = io::count(got, &input);
     if n == 0 {
         return finish(state, nums, ans, out).written(out, false);
     }
-    take_all(state, input, n, nums, ans, out).written(out, true)
-}
-
-// Reads once: how many bytes came, 0 at the end of the input and after a read that failed.
-fn fill(input: &mut Bytes) -> usize {
-    let got = libc::read(0, input);
-    io::count(got, input)
+    take_all(state, &input[..n], nums, ans, out).written(out, true)
 }
 
 // After the input: a last line without a newline is a line.
@@ -87,24 +77,19 @@ fn finish(state: State, nums: &mut Numbers, ans: &mut Numbers, out: &mut Bytes) 
     state
 }
 
-// Takes the first n bytes that were read.
 fn take_all(
     state: State,
-    input: &Bytes,
-    n: usize,
+    bytes: &[u8],
     nums: &mut Numbers,
     ans: &mut Numbers,
     out: &mut Bytes,
 ) -> State {
     let mut state = state;
+    let n = bytes.len();
     for i in 0..n {
-        state = take(state, byte_at(input, i), nums, ans, out);
+        state = take(state, bytes[i], nums, ans, out);
     }
     state
-}
-
-fn byte_at(input: &Bytes, i: usize) -> u8 {
-    if i < ROOM { input[i] } else { b'\n' }
 }
 
 fn take(state: State, b: u8, nums: &mut Numbers, ans: &mut Numbers, out: &mut Bytes) -> State {

@@ -1,15 +1,13 @@
 // A position among the numbers of a line, from place 1 on, and of an answer.
-use crate::numbers::MaybeU8;
-use crate::numbers::MaybeU16;
 use crate::numbers::Numbers;
+use crate::numbers::byte;
 use crate::numbers::put;
-use crate::numbers::put_u8;
-use crate::numbers::put_u16;
-use crate::numbers::read_u8;
-use crate::numbers::read_u16;
+use crate::numbers::put_bytes;
 use crate::numbers::read_u64;
+use crate::numbers::two_bytes;
 use position::MoveNumbers;
 use position::Position;
+use position::Told;
 use squares::Bitboard;
 
 // Where the parts stand in a line: cells, the sets of two words each, king squares, hands, side, ply, last move.
@@ -49,18 +47,8 @@ fn are_bytes(nums: &Numbers, from: usize, to: usize) -> bool {
     true
 }
 
-fn byte(nums: &Numbers, at: usize) -> u8 {
-    match read_u8(nums, at) {
-        MaybeU8::Fits(x) => x,
-        MaybeU8::TooLarge => 0,
-    }
-}
-
-fn two_bytes(nums: &Numbers, at: usize) -> u16 {
-    match read_u16(nums, at) {
-        MaybeU16::Fits(x) => x,
-        MaybeU16::TooLarge => 0,
-    }
+fn byte_at(nums: &Numbers, at: usize) -> u8 {
+    byte(read_u64(nums, at))
 }
 
 fn set(nums: &Numbers, first: usize, second: usize) -> Bitboard {
@@ -73,7 +61,7 @@ fn set(nums: &Numbers, first: usize, second: usize) -> Bitboard {
 fn cells(nums: &Numbers) -> [u8; 81] {
     let mut board = [0u8; 81];
     for i in 0..81usize {
-        board[i] = byte(nums, CELLS + i);
+        board[i] = byte_at(nums, CELLS + i);
     }
     board
 }
@@ -81,7 +69,7 @@ fn cells(nums: &Numbers) -> [u8; 81] {
 fn hands(nums: &Numbers) -> [u8; 14] {
     let mut hands = [0u8; 14];
     for i in 0..14usize {
-        hands[i] = byte(nums, HANDS + i);
+        hands[i] = byte_at(nums, HANDS + i);
     }
     hands
 }
@@ -96,10 +84,10 @@ fn kinds(nums: &Numbers) -> [Bitboard; 14] {
 
 fn last(nums: &Numbers) -> MoveNumbers {
     MoveNumbers {
-        tag: byte(nums, LAST),
-        a: byte(nums, LAST + 1),
-        b: byte(nums, LAST + 2),
-        promote: byte(nums, LAST + 3),
+        tag: byte_at(nums, LAST),
+        a: byte_at(nums, LAST + 1),
+        b: byte_at(nums, LAST + 2),
+        promote: byte_at(nums, LAST + 3),
     }
 }
 
@@ -108,11 +96,11 @@ pub fn read(nums: &Numbers) -> Position {
     Position {
         board: cells(nums),
         hands: hands(nums),
-        bking: byte(nums, KINGS),
-        wking: byte(nums, KINGS + 1),
-        side: byte(nums, SIDE),
+        bking: byte_at(nums, KINGS),
+        wking: byte_at(nums, KINGS + 1),
+        side: byte_at(nums, SIDE),
         last: last(nums),
-        ply: two_bytes(nums, PLY),
+        ply: two_bytes(read_u64(nums, PLY)),
         players: [
             set(nums, PLAYERS, PLAYERS + 1),
             set(nums, PLAYERS + 2, PLAYERS + 3),
@@ -121,24 +109,9 @@ pub fn read(nums: &Numbers) -> Position {
     }
 }
 
-pub fn put_set(ans: &mut Numbers, at: usize, set: Bitboard) -> usize {
+fn put_set(ans: &mut Numbers, at: usize, set: Bitboard) -> usize {
     let at = put(ans, at, set.lo);
     put(ans, at, set.hi)
-}
-
-pub fn put_last(ans: &mut Numbers, at: usize, last: MoveNumbers) -> usize {
-    let at = put_u8(ans, at, last.tag);
-    let at = put_u8(ans, at, last.a);
-    let at = put_u8(ans, at, last.b);
-    put_u8(ans, at, last.promote)
-}
-
-fn put_cells(ans: &mut Numbers, at: usize, board: [u8; 81]) -> usize {
-    let mut at = at;
-    for i in 0..81usize {
-        at = put_u8(ans, at, board[i]);
-    }
-    at
 }
 
 fn put_kinds(ans: &mut Numbers, at: usize, kinds: [Bitboard; 14]) -> usize {
@@ -150,29 +123,36 @@ fn put_kinds(ans: &mut Numbers, at: usize, kinds: [Bitboard; 14]) -> usize {
     at
 }
 
-fn put_hands(ans: &mut Numbers, at: usize, hands: [u8; 14]) -> usize {
-    let mut at = at;
-    for i in 0..14usize {
-        at = put_u8(ans, at, hands[i]);
-    }
-    at
+pub fn put_told(ans: &mut Numbers, told: Told) -> usize {
+    let bytes = [told.number, told.square];
+    put_bytes(ans, 0, &bytes)
 }
 
 pub fn put_position(ans: &mut Numbers, at: usize, p: Position) -> usize {
     let board = p.board;
+    let at = put_bytes(ans, at, &board);
+    let at = put_sets(ans, at, p);
+    put_rest(ans, at, p)
+}
+
+fn put_sets(ans: &mut Numbers, at: usize, p: Position) -> usize {
     let black = p.players[0];
     let white = p.players[1];
     let kinds = p.kinds;
-    let hands = p.hands;
-    let last = p.last;
-    let at = put_cells(ans, at, board);
     let at = put_set(ans, at, black);
     let at = put_set(ans, at, white);
-    let at = put_kinds(ans, at, kinds);
-    let at = put_u8(ans, at, p.bking);
-    let at = put_u8(ans, at, p.wking);
-    let at = put_hands(ans, at, hands);
-    let at = put_u8(ans, at, p.side);
-    let at = put_u16(ans, at, p.ply);
-    put_last(ans, at, last)
+    put_kinds(ans, at, kinds)
+}
+
+// King squares, hands, side, ply and last move.
+fn put_rest(ans: &mut Numbers, at: usize, p: Position) -> usize {
+    let kings = [p.bking, p.wking];
+    let hands = p.hands;
+    let last = p.last;
+    let at = put_bytes(ans, at, &kings);
+    let at = put_bytes(ans, at, &hands);
+    let at = put(ans, at, p.side as u64);
+    let at = put(ans, at, p.ply as u64);
+    let numbers = [last.tag, last.a, last.b, last.promote];
+    put_bytes(ans, at, &numbers)
 }

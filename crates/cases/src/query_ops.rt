@@ -1,0 +1,126 @@
+// The queries of a position: ops 22 to 33.
+use crate::numbers::Args;
+use crate::numbers::Few;
+use crate::numbers::byte;
+use position::KingAnswer;
+use position::KingSquare;
+use position::LastMove;
+use position::Move;
+use position::NumberAnswer;
+use position::PieceAnswer;
+use position::PlyAnswer;
+use position::Position;
+use position::SetAnswer;
+use position::Stands;
+use position::Told;
+
+pub fn answer(op: u64, p: Position, args: Args) -> Few {
+    let n = byte(args.a);
+    match op {
+        22 => of_told(p.soundness()),
+        23 => of_piece(p.piece_at(n)),
+        24..=28 => of_set(set(op, p, n)),
+        29 => of_number(p.side_to_move()),
+        30 => of_ply(p.ply()),
+        31 => of_number(p.hand(n, byte(args.b))),
+        32 => of_king(p.king_position(n)),
+        _ => last_move(p),
+    }
+}
+
+fn set(op: u64, p: Position, n: u8) -> SetAnswer {
+    match op {
+        24 => p.player_bitboard(n),
+        25 => p.piece_kind_bitboard(n),
+        26 => p.piece_bitboard(n),
+        27 => p.occupied_bitboard(),
+        _ => p.vacant_bitboard(),
+    }
+}
+
+fn of_told(told: Told) -> Few {
+    Few {
+        count: 2,
+        numbers: [told.number as u64, told.square as u64, 0, 0, 0, 0],
+    }
+}
+
+fn of_value(told: Told, value: u64) -> Few {
+    Few {
+        count: 3,
+        numbers: [told.number as u64, told.square as u64, value, 0, 0, 0],
+    }
+}
+
+fn of_set(answer: SetAnswer) -> Few {
+    let told = answer.told;
+    let set = answer.set;
+    Few {
+        count: 4,
+        numbers: [told.number as u64, told.square as u64, set.lo, set.hi, 0, 0],
+    }
+}
+
+fn of_number(answer: NumberAnswer) -> Few {
+    let told = answer.told;
+    of_value(told, answer.value as u64)
+}
+
+fn of_ply(answer: PlyAnswer) -> Few {
+    let told = answer.told;
+    of_value(told, answer.ply as u64)
+}
+
+fn of_piece(answer: PieceAnswer) -> Few {
+    let told = answer.told;
+    let stands = answer.stands;
+    match stands {
+        Stands::Piece(piece) => of_value(told, piece as u64),
+        Stands::Nothing => of_value(told, 0),
+    }
+}
+
+fn of_king(answer: KingAnswer) -> Few {
+    let told = answer.told;
+    let king = answer.king;
+    match king {
+        KingSquare::At(square) => of_value(told, square as u64),
+        KingSquare::Nothing => of_value(told, 0),
+    }
+}
+
+fn last_move(p: Position) -> Few {
+    let answer = p.last_move();
+    let told = answer.told;
+    let last = answer.last;
+    let m = numbers_of(last);
+    Few {
+        count: 6,
+        numbers: [told.number as u64, told.square as u64, m.a, m.b, m.c, m.d],
+    }
+}
+
+fn numbers_of(last: LastMove) -> Args {
+    let LastMove::Was(m) = last else {
+        return Args {
+            a: 0,
+            b: 0,
+            c: 0,
+            d: 0,
+        };
+    };
+    match m {
+        Move::Normal { from, to, promote } => Args {
+            a: 1,
+            b: from as u64,
+            c: to as u64,
+            d: if promote { 1 } else { 0 },
+        },
+        Move::Drop { piece, to } => Args {
+            a: 2,
+            b: piece as u64,
+            c: to as u64,
+            d: 0,
+        },
+    }
+}
