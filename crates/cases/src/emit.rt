@@ -25,15 +25,16 @@ impl Gathered {
     // The answer of `count` numbers as a line: a question mark where there are none.
     pub fn put_line(self, out: &mut Bytes, ans: &Numbers, count: usize) -> Self {
         if count == MALFORMED {
-            return self.put_byte(out, b'?').put_byte(out, b'\n');
+            return self.put_bytes(out, b"?\n");
         }
-        let mut gathered = self.put_number(out, read_u64(ans, 0));
-        for i in 1..count {
+        let mut gathered = self;
+        for i in 0..count {
+            let end = if count - i == 1 { b'\n' } else { b' ' };
             gathered = gathered
-                .put_byte(out, b' ')
-                .put_number(out, read_u64(ans, i));
+                .put_number(out, read_u64(ans, i))
+                .put_byte(out, end);
         }
-        gathered.put_byte(out, b'\n')
+        gathered
     }
 
     fn put_number(self, out: &mut Bytes, n: u64) -> Self {

@@ -124,8 +124,8 @@ fn put_kinds(ans: &mut Numbers, at: usize, kinds: [Bitboard; 14]) -> usize {
 }
 
 pub fn put_told(ans: &mut Numbers, told: Told) -> usize {
-    let bytes = [told.number, told.square];
-    put_bytes(ans, 0, &bytes)
+    let at = put(ans, 0, told.number as u64);
+    put(ans, at, told.square as u64)
 }
 
 pub fn put_position(ans: &mut Numbers, at: usize, p: Position) -> usize {
@@ -146,13 +146,19 @@ fn put_sets(ans: &mut Numbers, at: usize, p: Position) -> usize {
 
 // King squares, hands, side, ply and last move.
 fn put_rest(ans: &mut Numbers, at: usize, p: Position) -> usize {
-    let kings = [p.bking, p.wking];
     let hands = p.hands;
     let last = p.last;
-    let at = put_bytes(ans, at, &kings);
+    let at = put(ans, at, p.bking as u64);
+    let at = put(ans, at, p.wking as u64);
     let at = put_bytes(ans, at, &hands);
     let at = put(ans, at, p.side as u64);
     let at = put(ans, at, p.ply as u64);
-    let numbers = [last.tag, last.a, last.b, last.promote];
-    put_bytes(ans, at, &numbers)
+    put_last(ans, at, last)
+}
+
+fn put_last(ans: &mut Numbers, at: usize, last: MoveNumbers) -> usize {
+    let at = put(ans, at, last.tag as u64);
+    let at = put(ans, at, last.a as u64);
+    let at = put(ans, at, last.b as u64);
+    put(ans, at, last.promote as u64)
 }

@@ -7,4 +7,4 @@ pub put-line-spec : {M : Type 1} → statement M
 put-line-spec =
     tie.close (tie.spec (λ _ _ _ _ _ _ _ _. Unit) (λ _ _ count _ _ _ _ i. count - i)
     (search needs) (search needs) (search needs) (search needs) (search needs) (search needs) (search needs)
-    (search needs) (search needs) (search needs) (search needs) (search needs) (search needs) (search needs))
+    (search needs) (search needs) (search needs) (search needs) (search needs))
