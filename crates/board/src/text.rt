@@ -6,7 +6,7 @@ use crate::out::say;
 use position::Position;
 use sfen::write_sfen;
 
-const TEXT: [u8; 1190] = *b"0: done
+const TEXT: [u8; 1247] = *b"0: done
 1: position not sound, with the square
 2: a number out of range: square, file, pattern, kind, colour, cell, shift, ply 0, hand kind
 3: nothing on the from square
@@ -21,7 +21,7 @@ const TEXT: [u8; 1190] = *b"0: done
 12: lent buffer shorter than the text
 13: the edit would make the position unsound
 startpos: the start position
-empty: no piece
+empty: no piece, for put and hand to begin from
 move 7g7f, move 8h2b+ (promotes), move P*5e (drops): a move
 put 5e P, put 5e +p, put 5e . (nothing): changes one cell
 hand b P 2, hand w P 0: how many of a kind Black or White holds
@@ -31,14 +31,14 @@ sfen: the position as text
 show: the board, upper case is Black's
 lamps black (white, occupied, vacant), lamps P, lamps 7g (pieces like that one): a set of squares
 numbers: what the answer numbers mean
-help: these lines
+help: these lines; ctrl-D ends the program
 unknown command: help lists them
 a command is expected: help lists them
 line too long: help lists the commands
 nothing stands there
 ";
 
-// The places of the first command, of an unknown one, which goes on from them, and of the others.
+// Where the commands begin, the line for an unknown one, which stands behind them, and the others.
 pub const FORMS: u8 = 14;
 
 pub const UNKNOWN: u8 = 26;
