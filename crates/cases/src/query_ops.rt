@@ -5,7 +5,7 @@ use crate::numbers::byte;
 use position::KingAnswer;
 use position::KingSquare;
 use position::LastMove;
-use position::Move;
+use position::MoveNumbers;
 use position::NumberAnswer;
 use position::PieceAnswer;
 use position::PlyAnswer;
@@ -93,34 +93,23 @@ fn last_move(p: Position) -> Few {
     let answer = p.last_move();
     let told = answer.told;
     let last = answer.last;
-    let m = numbers_of(last);
+    let stored = stored(last);
     Few {
         count: 6,
-        numbers: [told.number as u64, told.square as u64, m.a, m.b, m.c, m.d],
+        numbers: [
+            told.number as u64,
+            told.square as u64,
+            stored.tag as u64,
+            stored.a as u64,
+            stored.b as u64,
+            stored.promote as u64,
+        ],
     }
 }
 
-fn numbers_of(last: LastMove) -> Args {
-    let LastMove::Was(m) = last else {
-        return Args {
-            a: 0,
-            b: 0,
-            c: 0,
-            d: 0,
-        };
-    };
-    match m {
-        Move::Normal { from, to, promote } => Args {
-            a: 1,
-            b: from as u64,
-            c: to as u64,
-            d: if promote { 1 } else { 0 },
-        },
-        Move::Drop { piece, to } => Args {
-            a: 2,
-            b: piece as u64,
-            c: to as u64,
-            d: 0,
-        },
+fn stored(last: LastMove) -> MoveNumbers {
+    match last {
+        LastMove::Nothing => MoveNumbers::none(),
+        LastMove::Was(m) => MoveNumbers::of(m),
     }
 }
