@@ -15,6 +15,7 @@ use crate::notation::kind;
 use crate::notation::ply;
 use crate::notation::read_move;
 use crate::notation::square;
+use crate::text::BYE;
 use crate::text::FORMS;
 use crate::text::MISSING;
 use crate::text::NOTHING_THERE;
@@ -32,8 +33,8 @@ use position::Told;
 use squares::Color;
 
 // A command's number is its place here and among the lines of `help`. Those before SFEN may change the position.
-const NAMES: [u8; 108] =
-    *b"startpos empty    move     put      hand     side     ply      sfen     show     lamps    numbers  help     ";
+const NAMES: [u8; 117] =
+    *b"startpos empty    move     put      hand     side     ply      sfen     show     lamps    numbers  help     quit     ";
 
 const STARTPOS: u8 = 0;
 
@@ -58,6 +59,8 @@ const LAMPS: u8 = 9;
 const NUMBERS: u8 = 10;
 
 const HELP: u8 = 11;
+
+const QUIT: u8 = 12;
 
 // The position, the line that is being read, and whether to read on.
 pub struct State {
@@ -123,7 +126,7 @@ fn fault_of(length: usize, count: usize, command: u8) -> u8 {
 
 // The line of a command's form.
 fn form_of(command: u8) -> u8 {
-    if command <= HELP {
+    if command <= QUIT {
         FORMS + command
     } else {
         UNKNOWN
@@ -136,7 +139,7 @@ fn arity(command: u8) -> usize {
         MOVE | SIDE | PLY | LAMPS => 2,
         PUT => 3,
         HAND => 4,
-        STARTPOS..=HELP => 1,
+        STARTPOS..=QUIT => 1,
         _ => 0,
     }
 }
@@ -211,15 +214,21 @@ fn set_ply(p: Position, word: Letters) -> Answer {
     p.ply_set(n)
 }
 
-// The commands that only look.
+// The commands that only look, and the one that ends the program: whether to read on.
 fn tell(command: u8, p: Position, word: Letters) -> bool {
     match command {
         SFEN => say_sfen(p),
         SHOW => show(p),
         LAMPS => lamps(p, word),
         NUMBERS => say_lines(true, 0, FORMS),
-        _ => say_lines(true, FORMS, UNKNOWN - FORMS),
+        HELP => say_lines(true, FORMS, UNKNOWN - FORMS),
+        _ => leave(),
     }
+}
+
+fn leave() -> bool {
+    say_line(BYE);
+    false
 }
 
 // The text has no newline of its own.

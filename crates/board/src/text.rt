@@ -6,7 +6,7 @@ use crate::out::say;
 use position::Position;
 use sfen::write_sfen;
 
-const TEXT: [u8; 1247] = *b"0: done
+const TEXT: [u8; 1265] = *b"0: done
 1: position not sound, with the square
 2: a number out of range: square, file, pattern, kind, colour, cell, shift, ply 0, hand kind
 3: nothing on the from square
@@ -31,23 +31,27 @@ sfen: the position as text
 show: the board, upper case is Black's
 lamps black (white, occupied, vacant), lamps P, lamps 7g (pieces like that one): a set of squares
 numbers: what the answer numbers mean
-help: these lines; ctrl-D ends the program
+help: these lines
+quit: ends the program, as ctrl-D does
 unknown command: help lists them
 a command is expected: help lists them
 line too long: help lists the commands
 nothing stands there
+bye
 ";
 
 // Where the commands begin, the line for an unknown one, which stands behind them, and the others.
 pub const FORMS: u8 = 14;
 
-pub const UNKNOWN: u8 = 26;
+pub const UNKNOWN: u8 = 27;
 
-pub const MISSING: u8 = 27;
+pub const MISSING: u8 = 28;
 
-pub const TOO_LONG: u8 = 28;
+pub const TOO_LONG: u8 = 29;
 
-pub const NOTHING_THERE: u8 = 29;
+pub const NOTHING_THERE: u8 = 30;
+
+pub const BYE: u8 = 31;
 
 // Says one line; of a command, that its form is expected.
 pub fn say_line(line: u8) -> bool {
