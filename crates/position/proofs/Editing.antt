@@ -91,8 +91,9 @@ module _ (p q : Position) (t : Told) (e : t ≡ soundnessTold q) where
       by false f = absurd (omega arith)
 
 -- ---- a sound position with other hands, side or ply
-pub same-cells : (p : Position) → Sized p → sound p ≡ true → (hands : List ℕ) (side : ℕ) (last : MoveNumbers) (ply : ℕ)
-    → record {
+abbrev with-others : Position → List ℕ → ℕ → MoveNumbers → ℕ → Position
+with-others p hands side last ply =
+    record {
       board = p .board;
       hands = hands;
       bking = p .bking;
@@ -103,21 +104,11 @@ pub same-cells : (p : Position) → Sized p → sound p ≡ true → (hands : Li
       players = p .players;
       kinds = p .kinds;
     }
-    ≡ full (record { cells = p .board; hands = hands; side = side; last = last; ply = ply })
+
+pub same-cells : (p : Position) → Sized p → sound p ≡ true → (hands : List ℕ) (side : ℕ) (last : MoveNumbers) (ply : ℕ)
+    → with-others p hands side last ply ≡ full (record { cells = p .board; hands = hands; side = side; last = last; ply = ply })
 unfolding full machine
-same-cells p s h hands side last ply =
-    ap (λ (q : Position).
-    record {
-      board = q .board;
-      hands = hands;
-      bking = q .bking;
-      wking = q .wking;
-      side = side;
-      last = last;
-      ply = ply;
-      players = q .players;
-      kinds = q .kinds;
-    }) (sound-full p s h)
+same-cells p s h hands side last ply = ap (λ (q : Position). with-others q hands side last ply) (sound-full p s h)
 
 -- ---- other cells
 pub popped-first : (s : Bitboard) (n : ℕ) (r : Bitboard) → record { number = 0; found = true; square = n; set = r } ≡ popAnswer s → n ≡ smallest s

@@ -12,7 +12,7 @@ use Rattle.squares.specs.Board.{onBoard}
 use Rattle.squares.specs.Kinds.{kindRow, goodPiece}
 use Rattle.squares.specs.Sets.{size, isEmpty, smallest}
 use Rattle.squares.specs.Answers.{promotedAnswer, popAnswer}
-use Rattle.squares.proofs.Laws.{eqb-same, promoted-small, promoted-told, promoted-none, promoted-refused, empty-size, pop-square, pop-nothing, smallest-at, smallest-none, size-none}
+use Rattle.squares.proofs.Laws.{eqb-same, promoted-small, promoted-value, promoted-some, empty-size, pop-square, pop-nothing, smallest-at, smallest-none, size-none}
 use Rattle.position.specs.Sound.{goodLast}
 use Rattle.position.specs.Inner.{kingOff, promotedAt, setsSize, overBySets}
 use Rattle.position.specs.declared.mv.MoveNumbers.{MoveNumbers}
@@ -63,21 +63,15 @@ module _ (s : Bitboard) (q : ℕ) where
 
 -- ---- where a promoted kind's set stands
 module _ (j : ℕ) (small : j < 7) where
-  place-none : kindRow (j + 1) .promoted ≡ 0 → (j ≡ promotedAt j) × (j < 14)
+  pub place-nothing : (n : ℕ) → record { number = n; found = false; value = 0 } ≡ promotedAnswer (j + 1) → (j ≡ promotedAt j) × (j < 14)
   unfolding promotedAt
-  place-none e = (rw (eq-eqb _ 0 e), omega arith)
-
-  pub place-nothing : record { number = 0; found = false; value = 0 } ≡ promotedAnswer (j + 1) → (j ≡ promotedAt j) × (j < 14)
-  place-nothing e = place-none (promoted-none (j + 1) e)
-
-  pub place-refused : record { number = 2; found = false; value = 0 } ≡ promotedAnswer (j + 1) → (j ≡ promotedAt j) × (j < 14)
-  place-refused e = place-none (promoted-refused (j + 1) e)
+  place-nothing n e = (rw (eq-eqb _ 0 (sym (promoted-value (j + 1) _ e))), omega arith)
 
   pub place-form : (v : ℕ) → record { number = 0; found = true; value = v } ≡ promotedAnswer (j + 1) → (v - 1 ≡ promotedAt j) × (v - 1 < 14)
   unfolding promotedAt
   place-form v e =
-      let t = promoted-told (j + 1) v e in
-      let z : v ≡ kindRow (j + 1) .promoted = t .0 in
+      let z : v ≡ kindRow (j + 1) .promoted = promoted-value (j + 1) _ e in
+      let some = promoted-some (j + 1) _ e refl in
       (rw (← z) (rw (ne-eqb v 0 (λ q. omega arith))), omega (arith, promoted-small (j + 1)))
 
 -- ---- the counts

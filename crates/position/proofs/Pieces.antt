@@ -7,9 +7,7 @@ use native.Mathlib.Omega.{arith}
 use lib.Dec.{eqb, leb}
 use borrow.Author.Tests.{eqb-true, eqb-false, ne-eqb, leb-true, lt-leb, not-false, not-true}
 use Rattle.squares.specs.Kinds.{kindRow, kinds, goodKind, handKind, pieceOf, colourOf, kindOf, goodPiece, goodCell, promotedPiece}
-use Rattle.squares.specs.Answers.{FormValue, formIf, formGiven, promotedPieceAnswer, handKindAnswer}
-use Rattle.squares.specs.declared.answers.FormAnswer.{FormAnswer}
-use Rattle.squares.proofs.Laws.{both, piece-small, no-promoted, no-held, decided}
+use Rattle.squares.proofs.Laws.{both, piece-small, decided}
 use Rattle.position.specs.Sound.{anyBelow}
 use Rattle.position.specs.Moves.{arriving}
 use Rattle.position.proofs.Agree.{any-each}
@@ -86,16 +84,3 @@ unpromoted-own = refl
 pub plain-kind : (c : ℕ) → goodPiece c ≡ true → kindOf c < 9 → unkind c ≡ kindOf c
 plain-kind c g h =
     eqb-true _ _ (or-right _ _ (lt-leb 9 (kindOf c) h) (not-false _ (any-each (λ c. not (leb 9 (kindOf c) || eqb (unkind c) (kindOf c))) 31 c unpromoted-own (piece-small c g))))
-
--- ---- what a form's answer says
-form-value : (r : FormAnswer) (t : Bool) (v : ℕ) → (t ≡ false → v ≡ 0) → formGiven r ≡ formIf t v → formGiven r .value ≡ v
-form-value r true v z e = ap (λ (x : FormValue). x .value) e
-form-value r false v z e = ap (λ (x : FormValue). x .value) e ∙ sym (z refl)
-
-pub promoted-value : (r : FormAnswer) (c : ℕ) → formGiven r ≡ promotedPieceAnswer c → formGiven r .value ≡ promotedPiece c
-unfolding promotedPieceAnswer
-promoted-value r c e = form-value r (goodPiece c) (promotedPiece c) (no-promoted c) e
-
-pub held-value : (r : FormAnswer) (k : ℕ) → formGiven r ≡ handKindAnswer k → formGiven r .value ≡ handKind k
-unfolding handKindAnswer
-held-value r k e = form-value r (goodKind k) (handKind k) (no-held k) e

@@ -101,13 +101,13 @@ unfolding goodPiece goodKind
 kind-piece x l u = rw (le-leb 1 (kindOf x) l, le-leb (kindOf x) 14 u)
 
 module _ (p : Position) (x n : ℕ) where
-  -- the position once the colour set is turned
+  -- the position once the colour set is toggled
   abbrev pub Coloured : Position → Type 0
   Coloured q = q ≡ withSets p (toggled (p .players) (colourOf x) (singleS n)) (p .kinds)
 
-  pub colour-turned : (k : ℕ) (one d r : Bitboard) → length (p .players) ≡ 2 → (x ≡ 0 → ⊥) → one ≡ singleS n → k ≡ colourOf x → r ≡ xorS (getD (p .players) (k - 1) d) one
+  pub colour-toggled : (k : ℕ) (one d r : Bitboard) → length (p .players) ≡ 2 → (x ≡ 0 → ⊥) → one ≡ singleS n → k ≡ colourOf x → r ≡ xorS (getD (p .players) (k - 1) d) one
       → Coloured (withSets p (set (p .players) (k - 1) r) (p .kinds))
-  colour-turned k one d r size full e ek er =
+  colour-toggled k one d r size full e ek er =
       let c = colour-in x full in
       ap (λ (l : List Bitboard). withSets p l (p .kinds)) (toggle-in (p .players) k one d r (omega arith) (omega arith) er ∙ rw (ek, e))
 
@@ -115,11 +115,11 @@ module _ (p : Position) (x n : ℕ) where
   unfolding toggled
   colour-same z = rw (z, empty-colour)
 
-  pub kind-turned : (q : Position) (k : ℕ) (one d r : Bitboard) → Coloured q → length (p .kinds) ≡ 14 → goodPiece x ≡ true → one ≡ singleS n → k ≡ kindOf x
+  pub kind-toggled : (q : Position) (k : ℕ) (one d r : Bitboard) → Coloured q → length (p .kinds) ≡ 14 → goodPiece x ≡ true → one ≡ singleS n → k ≡ kindOf x
       → r ≡ xorS (getD (q .kinds) (k - 1) d) one
       → withSets q (q .players) (set (q .kinds) (k - 1) r) ≡ toggledAt p x n
   unfolding toggledAt
-  kind-turned q k one d r h size good e ek er =
+  kind-toggled q k one d r h size good e ek er =
       let b = piece-kind x good in
       rw (h, toggle-in (p .kinds) k one d r (omega arith) (omega arith) (rw h at er), ek, e)
 

@@ -88,13 +88,13 @@ module _ (mark : ℕ → ℕ) (count : ℕ) (cells : List ℕ) where
     none true = refl
     none false = refl
 
-    turned : (a b : ℕ) → eqb a b ≡ eqb b a
-    turned a b = eqb-same a b b a sym sym
+    swapped : (a b : ℕ) → eqb a b ≡ eqb b a
+    swapped a b = eqb-same a b b a sym sym
 
     here : (j m : ℕ) → 1 ≤ m → Dec (m ≡ n)
         → flips (flips (eqb (mark (cellAt cells m)) j) (eqb j was && eqb n m)) (eqb j (mark v) && eqb n m) ≡ eqb (mark (cellAt (set cells (n - 1) v) m)) j
     here j m lm (yes e) =
-        rw (e, eq-eqb n n refl, and-true (eqb j was), and-true (eqb j (mark v)), cell-same cells n v lo hi, turned j was, turned j (mark v)) (twice (eqb was j) (eqb (mark v) j))
+        rw (e, eq-eqb n n refl, and-true (eqb j was), and-true (eqb j (mark v)), cell-same cells n v lo hi, swapped j was, swapped j (mark v)) (twice (eqb was j) (eqb (mark v) j))
     here j m lm (no d) =
         rw (ne-eqb n m (λ z. d (sym z)), and-false (eqb j was), and-false (eqb j (mark v)), cell-other cells n m v lo lm d) (none (eqb (mark (cellAt cells m)) j))
 

@@ -87,8 +87,8 @@ pub(crate) fn promoted(c: u8) -> u8
     }
 }
 
+// The empty set where there is no such square.
 pub(crate) fn single(n: u8) -> Bitboard
-    requires { ⌜ OnBoard n ⌝ }
     ensures { λ r. ⌜ r ≡ singleS n ⌝ }
 {
     match Bitboard::single(n) {

@@ -1,6 +1,5 @@
 // A move carried out on a position: two cells change, and the sets and the king squares follow.
 ghost use mathlib.Core.Path.{_≡_};
-ghost use Rattle.position.specs.Inner.{OnBoard};
 ghost use Rattle.position.specs.Steps.{kingAfter, stepped};
 ghost use Rattle.position.specs.Plans.{Steppable, storedBy, toggledAt, Playable, StepPlan};
 use crate::cells::cell;
@@ -59,7 +58,6 @@ pub(crate) fn store(p: Position, plan: Plan) -> Position
 
 // The square `n` leaves the sets of the cell `x`, or joins them.
 pub(crate) fn toggle(p: Position, x: u8, n: u8) -> Position
-    requires { ⌜ OnBoard n ⌝ }
     ensures { λ r. ⌜ r ≡ toggledAt p x n ⌝ }
 {
     let one = single(n);

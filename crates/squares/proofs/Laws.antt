@@ -6,10 +6,11 @@ use mathlib.Core.Bool.{Bool, true, false, _&&_, _||_, not, Bool·beq, true≢fal
 use mathlib.Core.Logic.{⊎-elim}
 use native.Mathlib.Omega.{arith}
 use lib.Dec.{eqb}
+use borrow.Author.Tests.{ne-eqb}
 use Rattle.squares.specs.Board.{onBoard, flipTo, opposite, step}
 use Rattle.squares.specs.Sets.{has, setOf, emptyS, singleS, orS, andS, xorS, andnotS, notS, flipS, withoutS, shiftS}
-use Rattle.squares.specs.Answers.{SetValue, TruthValue, setIf, truthIf, singleAnswer, containsAnswer, NumberValue, FormValue, numberIf, formIf, unpromotedAnswer, limitAnswer, letterAnswer, promotedAnswer}
-use Rattle.squares.specs.Kinds.{goodKind, kindRow}
+use Rattle.squares.specs.Answers.{SetValue, TruthValue, setIf, truthIf, singleAnswer, containsAnswer, NumberValue, FormValue, numberIf, formIf, unpromotedAnswer, limitAnswer, letterAnswer, promotedAnswer, handKindAnswer, promotedPieceAnswer}
+use Rattle.squares.specs.Kinds.{goodKind, kindRow, handKind, goodPiece, promotedPiece}
 use Rattle.squares.specs.declared.bitboard.Bitboard.{Bitboard}
 use Rattle.squares.specs.declared.bitboard.Direction.{Direction}
 pub use Rattle.squares.proofs.Lists.{length-tab, getD-tab, getD-any, is-tab, set-tab, tab-same, Filled, filled-none, filled-more, filled-all}
@@ -148,93 +149,66 @@ shift-rule dir d f =
 pub by-members : (r : Bitboard) (f : ℕ → Bool) → r .lo < 2 ^ 63 → r .hi < 2 ^ 18 → ((n : ℕ) → has r n ≡ onBoard 9 n && f n) → r ≡ setOf f
 by-members r f hl hh e = sym (setOf-has r hl hh) ∙ setOf-cong (has r) f (λ n o. e n ∙ ap (λ (t : Bool). t && f n) o)
 
--- ---- what a case of an answer says
-pub single-done : (n : ℕ) (s : Bitboard) → record { number = 0; set = s } ≡ singleAnswer n → (onBoard 9 n ≡ true) × (s ≡ singleS n)
-unfolding singleAnswer
-single-done n s = done (onBoard 9 n) s (singleS n)
-  where
-    done : (t : Bool) (u v : Bitboard) → record { number = 0; set = u } ≡ setIf t v → (t ≡ true) × (u ≡ v)
-    done true u v q = (refl, ap (λ (x : SetValue). x .set) q)
-    done false u v q = let z : _≡_ {A = ℕ} 0 2 = ap (λ (x : SetValue). x .number) q in absurd (omega arith)
+-- ---- what a call gives, told or refused, is what its table or rule says, where that is 0, no or empty for a bad number
+number-value : (good : Bool) (w : ℕ) (x : NumberValue) → (good ≡ false → w ≡ 0) → x ≡ numberIf good w → x .value ≡ w
+number-value true w x bad q = ap (λ (y : NumberValue). y .value) q
+number-value false w x bad q = ap (λ (y : NumberValue). y .value) q ∙ sym (bad refl)
 
-pub single-refused : (n : ℕ) (s : Bitboard) → record { number = 2; set = s } ≡ singleAnswer n → onBoard 9 n ≡ false
-unfolding singleAnswer
-single-refused n s = refused (onBoard 9 n) s (singleS n)
-  where
-    refused : (t : Bool) (u v : Bitboard) → record { number = 2; set = u } ≡ setIf t v → t ≡ false
-    refused true u v q = let z : _≡_ {A = ℕ} 2 0 = ap (λ (x : SetValue). x .number) q in absurd (omega arith)
-    refused false u v q = refl
+form-value : (good : Bool) (w : ℕ) (x : FormValue) → (good ≡ false → w ≡ 0) → x ≡ formIf good w → x .value ≡ w
+form-value true w x bad q = ap (λ (y : FormValue). y .value) q
+form-value false w x bad q = ap (λ (y : FormValue). y .value) q ∙ sym (bad refl)
 
-pub contains-told : (s : Bitboard) (n : ℕ) (b : Bool) → record { number = 0; truth = b } ≡ containsAnswer s n → b ≡ has s n
+truth-value : (good b : Bool) (x : TruthValue) → (good ≡ false → b ≡ false) → x ≡ truthIf good b → x .truth ≡ b
+truth-value true b x bad q = ap (λ (y : TruthValue). y .truth) q
+truth-value false b x bad q = ap (λ (y : TruthValue). y .truth) q ∙ sym (bad refl)
+
+set-value : (good : Bool) (s : Bitboard) (x : SetValue) → (good ≡ false → s ≡ emptyS) → x ≡ setIf good s → x .set ≡ s
+set-value true s x bad q = ap (λ (y : SetValue). y .set) q
+set-value false s x bad q = ap (λ (y : SetValue). y .set) q ∙ sym (bad refl)
+
+-- a form that is found is not 0
+form-some : (good : Bool) (w : ℕ) (x : FormValue) → x ≡ formIf good w → x .found ≡ true → 1 ≤ w
+form-some true zero x q f = absurd (true≢false (sym f ∙ ap (λ (y : FormValue). y .found) q))
+form-some true (suc w) x q f = omega arith
+form-some false w x q f = absurd (true≢false (sym f ∙ ap (λ (y : FormValue). y .found) q))
+
+module _ (k : ℕ) where
+  pub unpromoted-value : (x : NumberValue) → x ≡ unpromotedAnswer k → x .value ≡ kindRow k .unpromoted
+  unfolding unpromotedAnswer
+  unpromoted-value x q = number-value (goodKind k) _ x (λ bad. row-bad k bad .0) q
+
+  pub limit-value : (x : NumberValue) → x ≡ limitAnswer k → x .value ≡ kindRow k .limit
+  unfolding limitAnswer
+  limit-value x q = number-value (goodKind k) _ x (λ bad. row-bad k bad .2) q
+
+  pub letter-value : (x : NumberValue) → x ≡ letterAnswer k → x .value ≡ kindRow k .letter
+  unfolding letterAnswer
+  letter-value x q = number-value (goodKind k) _ x (λ bad. row-bad k bad .3) q
+
+  pub promoted-value : (x : FormValue) → x ≡ promotedAnswer k → x .value ≡ kindRow k .promoted
+  unfolding promotedAnswer
+  promoted-value x q = form-value (goodKind k) _ x (λ bad. row-bad k bad .1) q
+
+  pub promoted-some : (x : FormValue) → x ≡ promotedAnswer k → x .found ≡ true → 1 ≤ kindRow k .promoted
+  unfolding promotedAnswer
+  promoted-some x q f = form-some (goodKind k) _ x q f
+
+  pub held-value : (x : FormValue) → x ≡ handKindAnswer k → x .value ≡ handKind k
+  unfolding handKindAnswer
+  held-value x q = form-value (goodKind k) _ x (no-held k) q
+
+pub promoted-piece-value : (c : ℕ) (x : FormValue) → x ≡ promotedPieceAnswer c → x .value ≡ promotedPiece c
+unfolding promotedPieceAnswer
+promoted-piece-value c x q = form-value (goodPiece c) _ x (no-promoted c) q
+
+pub contains-value : (s : Bitboard) (n : ℕ) (x : TruthValue) → x ≡ containsAnswer s n → x .truth ≡ has s n
 unfolding containsAnswer
-contains-told s n b = told (onBoard 9 n) (has s n)
-  where
-    told : (t h : Bool) → record { number = 0; truth = b } ≡ truthIf t h → b ≡ h
-    told true h q = ap (λ (x : TruthValue). x .truth) q
-    told false h q = let z : _≡_ {A = ℕ} 0 2 = ap (λ (x : TruthValue). x .number) q in absurd (omega arith)
+contains-value s n x q = truth-value (onBoard 9 n) _ x (has-off s n) q
 
-pub contains-refused : (s : Bitboard) (n : ℕ) (b : Bool) → record { number = 2; truth = b } ≡ containsAnswer s n → has s n ≡ false
-unfolding containsAnswer
-contains-refused s n b e = has-off s n (refused (onBoard 9 n) (has s n) e)
-  where
-    refused : (t h : Bool) → record { number = 2; truth = b } ≡ truthIf t h → t ≡ false
-    refused true h q = let z : _≡_ {A = ℕ} 2 0 = ap (λ (x : TruthValue). x .number) q in absurd (omega arith)
-    refused false h q = refl
+single-off : (n : ℕ) → onBoard 9 n ≡ false → singleS n ≡ emptyS
+unfolding singleS emptyS
+single-off n off = setOf-cong (eqb n) (λ m. false) (λ m on. ne-eqb n m (λ e. true≢false (sym on ∙ ap (onBoard 9) (sym e) ∙ off)))
 
-pub number-told : (t : Bool) (v w : ℕ) → record { number = 0; value = v } ≡ numberIf t w → (t ≡ true) × (v ≡ w)
-number-told true v w q = (refl, ap (λ (x : NumberValue). x .value) q)
-number-told false v w q = let z : _≡_ {A = ℕ} 0 2 = ap (λ (x : NumberValue). x .number) q in absurd (omega arith)
-
-pub number-refused : (t : Bool) (v w : ℕ) → record { number = 2; value = v } ≡ numberIf t w → t ≡ false
-number-refused true v w q = let z : _≡_ {A = ℕ} 2 0 = ap (λ (x : NumberValue). x .number) q in absurd (omega arith)
-number-refused false v w q = refl
-
-pub unpromoted-told : (k v : ℕ) → record { number = 0; value = v } ≡ unpromotedAnswer k → v ≡ kindRow k .unpromoted
-unfolding unpromotedAnswer
-unpromoted-told k v q = number-told (goodKind k) v (kindRow k .unpromoted) q .1
-
-pub unpromoted-refused : (k v : ℕ) → record { number = 2; value = v } ≡ unpromotedAnswer k → kindRow k .unpromoted ≡ 0
-unfolding unpromotedAnswer
-unpromoted-refused k v q = row-bad k (number-refused (goodKind k) v (kindRow k .unpromoted) q) .0
-
-pub letter-told : (k v : ℕ) → record { number = 0; value = v } ≡ letterAnswer k → v ≡ kindRow k .letter
-unfolding letterAnswer
-letter-told k v q = number-told (goodKind k) v (kindRow k .letter) q .1
-
-pub letter-refused : (k v : ℕ) → record { number = 2; value = v } ≡ letterAnswer k → kindRow k .letter ≡ 0
-unfolding letterAnswer
-letter-refused k v q = row-bad k (number-refused (goodKind k) v (kindRow k .letter) q) .3
-
-pub limit-told : (k v : ℕ) → record { number = 0; value = v } ≡ limitAnswer k → v ≡ kindRow k .limit
-unfolding limitAnswer
-limit-told k v q = number-told (goodKind k) v (kindRow k .limit) q .1
-
-pub limit-refused : (k v : ℕ) → record { number = 2; value = v } ≡ limitAnswer k → kindRow k .limit ≡ 0
-unfolding limitAnswer
-limit-refused k v q = row-bad k (number-refused (goodKind k) v (kindRow k .limit) q) .2
-
--- a form that is told is not 0: that says "nothing"
-form-told : (t : Bool) (v w : ℕ) → record { number = 0; found = true; value = v } ≡ formIf t w → (v ≡ w) × (1 ≤ v)
-form-told true v zero q = absurd (true≢false (ap (λ (x : FormValue). x .found) q))
-form-told true v (suc w) q = let z : v ≡ suc w = ap (λ (x : FormValue). x .value) q in (z, omega arith)
-form-told false v w q = let z : _≡_ {A = ℕ} 0 2 = ap (λ (x : FormValue). x .number) q in absurd (omega arith)
-
-form-none : (t : Bool) (w : ℕ) → record { number = 0; found = false; value = 0 } ≡ formIf t w → w ≡ 0
-form-none true w q = sym (ap (λ (x : FormValue). x .value) q)
-form-none false w q = let z : _≡_ {A = ℕ} 0 2 = ap (λ (x : FormValue). x .number) q in absurd (omega arith)
-
-form-refused : (t : Bool) (w : ℕ) → record { number = 2; found = false; value = 0 } ≡ formIf t w → t ≡ false
-form-refused true w q = let z : _≡_ {A = ℕ} 2 0 = ap (λ (x : FormValue). x .number) q in absurd (omega arith)
-form-refused false w q = refl
-
-pub promoted-told : (k v : ℕ) → record { number = 0; found = true; value = v } ≡ promotedAnswer k → (v ≡ kindRow k .promoted) × (1 ≤ v)
-unfolding promotedAnswer
-promoted-told k v q = form-told (goodKind k) v (kindRow k .promoted) q
-
-pub promoted-none : (k : ℕ) → record { number = 0; found = false; value = 0 } ≡ promotedAnswer k → kindRow k .promoted ≡ 0
-unfolding promotedAnswer
-promoted-none k q = form-none (goodKind k) (kindRow k .promoted) q
-
-pub promoted-refused : (k : ℕ) → record { number = 2; found = false; value = 0 } ≡ promotedAnswer k → kindRow k .promoted ≡ 0
-unfolding promotedAnswer
-promoted-refused k q = row-bad k (form-refused (goodKind k) (kindRow k .promoted) q) .1
+pub single-value : (n : ℕ) (x : SetValue) → x ≡ singleAnswer n → x .set ≡ singleS n
+unfolding singleAnswer
+single-value n x q = set-value (onBoard 9 n) _ x (single-off n) q

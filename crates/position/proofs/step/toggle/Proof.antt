@@ -7,8 +7,7 @@ use Rattle.squares.specs.Kinds.{goodPiece}
 use Rattle.squares.proofs.Laws.{piece-kind}
 use Rattle.position.specs.Machine.{Sized}
 use Rattle.position.proofs.Sizes.{sized}
-use Rattle.position.proofs.Playing.{colour-in, Coloured, colour-turned, colour-same, kind-turned, kind-same}
-use borrow.Author.Needs.{needs}
+use Rattle.position.proofs.Playing.{colour-in, Coloured, colour-toggled, colour-same, kind-toggled, kind-same}
 use Rattle.position.proofs.step.toggle.Statement.{statement}
 use Rattle.position.proofs.step.toggle.Tie as tie
 
@@ -25,10 +24,10 @@ kind : (q : tie.After-kind-of) → (1 ≤ q .kind-of .result) × (q .kind-of .re
 kind q = rw (q .kind-of .ensures) (piece-kind _ (good q))
 
 -- where the first two branches meet
-turned : (q : tie.Joined1) → Coloured (q .before .before .args .p) (q .before .before .args .x) (q .before .before .args .n) (q .if1 .q)
-turned q =
+toggled : (q : tie.Joined1) → Coloured (q .before .before .args .p) (q .before .before .args .x) (q .before .before .args .n) (q .if1 .q)
+toggled q =
     ⊎-elim
-    (λ w. w .4 ∙ colour-turned _ _ _ _ _ _ _ (size (q .before .before) .players) (w .0 .taken) (q .before .single .ensures) (w .1 .ensures) (w .3 .ensures))
+    (λ w. w .4 ∙ colour-toggled _ _ _ _ _ _ _ (size (q .before .before) .players) (w .0 .taken) (q .before .single .ensures) (w .1 .ensures) (w .3 .ensures))
     (λ w. w .1 ∙ colour-same _ _ _ (w .0 .left))
     (q .if1 .came)
 
@@ -51,15 +50,15 @@ element-set-from-q-2 : tie.Need-element-set-from-q-2
 element-set-from-q-2 c = omega (arith, kind (c .before .before) .1)
 
 returns : tie.Need-returns
-returns c = let k = c .before .before in let j = k .before .before .before in kind-turned _ _ _ _ _ _ _ _ (turned j) (size (j .before .before) .kinds) (good k) (j .before .single .ensures) (k .kind-of .ensures) (c .xor2 .ensures)
+returns c = let k = c .before .before in let j = k .before .before .before in kind-toggled _ _ _ _ _ _ _ _ (toggled j) (size (j .before .before) .kinds) (good k) (j .before .single .ensures) (k .kind-of .ensures) (c .xor2 .ensures)
 
 returns-2 : tie.Need-returns-2
-returns-2 c = let j = c .before .before in kind-same _ _ _ _ (turned j) (size (j .before .before) .kinds) (sym (c .before .is-piece .ensures) ∙ c .if2 .left)
+returns-2 c = let j = c .before .before in kind-same _ _ _ _ (toggled j) (size (j .before .before) .kinds) (sym (c .before .is-piece .ensures) ∙ c .if2 .left)
 
 pub toggle-spec : {M : Type 1} → statement M
 toggle-spec =
     tie.close
-    (tie.spec (search needs) (λ c κs. tt) sub-at (λ c. record { fits = omega arith }) (λ c. record { fits = omega arith }) element-copy-out-set
+    (tie.spec (λ c κs. tt) (λ c κs. tt) sub-at (λ c. record { fits = omega arith }) (λ c. record { fits = omega arith }) element-copy-out-set
     (λ c κs. tt) (λ c. record { fits = omega arith }) element-set-from-q (λ c κs. tt) (λ c κs. tt) sub-at-2 (λ c. record { fits = omega arith })
     (λ c. record { fits = omega arith }) element-copy-out-set-2 (λ c κs. tt) (λ c. record { fits = omega arith }) element-set-from-q-2 returns
     returns-2)

@@ -5,19 +5,10 @@ use Rattle.position.proofs.position.Position.step.Tie as tie
 store-requires : tie.Need-store-requires
 store-requires c κs = c .step-plan .ensures .fits
 
-toggle-requires : tie.Need-toggle-requires
-toggle-requires c κs = c .before .step-plan .ensures .fits .at-from
-
-toggle-requires-2 : tie.Need-toggle-requires-2
-toggle-requires-2 c κs = c .before .before .step-plan .ensures .fits .at-to
-
-toggle-requires-3 : tie.Need-toggle-requires-3
-toggle-requires-3 c κs = c .before .before .before .step-plan .ensures .fits .at-to
-
 returns : tie.Need-returns
 unfolding playedBy
 returns c = let q = c .before .before .before in rw (c .toggle3 .ensures, c .before .toggle2 .ensures, c .before .before .toggle .ensures, q .store .ensures) (q .before .step-plan .ensures .does)
 
 pub step-spec : {M : Type 1} → statement M
 step-spec =
-    tie.close (tie.spec (λ c κs. tt) store-requires toggle-requires toggle-requires-2 toggle-requires-3 returns)
+    tie.close (tie.spec (λ c κs. tt) store-requires (λ c κs. tt) (λ c κs. tt) (λ c κs. tt) returns)
