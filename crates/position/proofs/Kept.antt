@@ -15,14 +15,13 @@ use Rattle.squares.proofs.Laws.{board-on, board-range, cell-piece, piece-cell, 
 use Rattle.position.specs.Machine.{Machine, machine, full, cellAt, kingSquare}
 use Rattle.position.specs.Sound.{sound, standing, goodLast}
 use Rattle.position.specs.Moves.{arriving, held, spent, numbersOf, moved, dropped}
-use Rattle.position.specs.Steps.{carried}
 use Rattle.position.specs.declared.position.Position.{Position}
 use Rattle.position.specs.declared.mv.Move.the-variants.{Normal, Drop}
 use Rattle.position.proofs.Stores.{cell-same, cell-other}
 use Rattle.position.proofs.Kings.{KingIs, king-square, king-moves}
 use Rattle.position.proofs.InOrder.{InOrder, Sized, sound-full, sound-order}
 use Rattle.position.proofs.Pieces.{Lands, arriving-lands, cell-held, plain-kind}
-use Rattle.position.proofs.Carry.{carry-full}
+use Rattle.position.proofs.Carrying.{carried, carry-full}
 use Rattle.position.proofs.Tallies.{standing-store, empty-none, held-sum, spent-sum}
 use Rattle.position.proofs.Ladder.{CanMove, CanDrop}
 

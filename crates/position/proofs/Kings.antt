@@ -13,7 +13,7 @@ use borrow.Author.Tests.{eqb-true, eq-eqb, ne-eqb, ltb-false, le-ltb}
 use Rattle.squares.specs.Sets.{firstOf}
 use Rattle.position.specs.Machine.{cellAt, kingSquare}
 use Rattle.position.specs.Sound.{kingWrong}
-use Rattle.position.specs.Steps.{kingAfter}
+use Rattle.position.specs.Plans.{kingAfter}
 use Rattle.position.proofs.Stores.{cell-same, cell-other}
 use Rattle.position.proofs.Agree.{or-false-both, any-each, any-all, beq-false, beq-same}
 

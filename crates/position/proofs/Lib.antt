@@ -10,13 +10,12 @@ mod InOrder
 mod Asking
 mod Pieces
 mod Kings
-mod Carry
+mod Carrying
 mod Playing
 mod Tallies
 mod Ladder
 mod Kept
 mod Halves
-mod Stepping
 mod Exact
 mod Theorems
 mod Editing

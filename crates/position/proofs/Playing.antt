@@ -15,16 +15,16 @@ use Rattle.squares.specs.Sets.{singleS, xorS}
 use Rattle.squares.proofs.Laws.{le-or-lt, empty-colour, black-colour, white-colour, black-kind, piece-kind}
 use Rattle.position.specs.Machine.{cellAt}
 use Rattle.position.specs.Moves.{arriving, numbersOf, movePlayed}
-use Rattle.position.specs.Steps.{toggled, setsAfter, carried, stepped}
 use Rattle.position.specs.Inner.{OnBoard}
-use Rattle.position.specs.Plans.{refusedBy, normalPlan, dropPlan, storedBy, toggledAt, playedBy, Playable, StepPlan, MovePlan, withSets}
+use Rattle.position.specs.Plans.{toggled, refusedBy, normalPlan, dropPlan, storedBy, toggledAt, playedBy, Playable, MovePlan, withSets}
 use Rattle.position.specs.declared.position.Position.{Position}
 use Rattle.position.specs.declared.plan.Plan.{Plan}
 use Rattle.position.specs.declared.answers.Answer.{Answer}
 use Rattle.position.specs.declared.mv.Move.{Move}
 use Rattle.position.specs.declared.mv.Move.the-variants.{Normal, Drop}
-use Rattle.position.proofs.Stores.{cell-same, cell-other, toggle-in, toggle-low, toggle-high}
+use Rattle.position.proofs.Stores.{setsAfter, cell-same, cell-other, toggle-in, toggle-low, toggle-high}
 use Rattle.position.proofs.Pieces.{positive}
+use Rattle.position.proofs.Carrying.{carried}
 
 -- ---- a plan that does nothing
 module _ (p : Position) (n : ℕ) (d : n ≡ 0 → ⊥) where
@@ -42,18 +42,12 @@ module _ (p : Position) (n : ℕ) (d : n ≡ 0 → ⊥) where
   unfolding refusedBy playedBy storedBy toggledAt toggled
   refused-plays = rw (ne-eqb n 0 d, empty-colour, black-kind 0 (omega arith))
 
-pub plan-keeps : (p : Position) (m : Move) (r : Plan) → r ≡ refusedBy 1 → p ≡ stepped p m → StepPlan p m r
-plan-keeps p m r e q = rw e (record { fits = refused-fits p 1 (eqb-false 1 0 refl); does = refused-plays p 1 (eqb-false 1 0 refl) ∙ q })
-
 pub plan-refuses : (p : Position) (m : Move) (square n : ℕ) (r : Plan) → r ≡ refusedBy n → (n ≡ 0 → ⊥)
     → record { told = record { number = n; square = square }; position = p } ≡ movePlayed p m → MovePlan p m square r
 unfolding refusedBy
 plan-refuses p m square n r e d q = rw e (record { fits = refused-fits p n d; does = rw (refused-plays p n d) q })
 
 -- ---- the plan of a move
-pub plan-steps : (p : Position) (m : Move) (r plan : Plan) → r ≡ plan → Playable p plan → playedBy p plan ≡ stepped p m → StepPlan p m r
-plan-steps p m r plan e f q = rw e (record { fits = f; does = q })
-
 abbrev told-with : Position → ℕ → Answer
 told-with p n = record { told = record { number = n; square = 0 }; position = p }
 

@@ -14,7 +14,7 @@ use Rattle.squares.specs.declared.bitboard.Bitboard.{Bitboard}
 use Rattle.squares.specs.Sets.{setOf, emptyS, singleS, xorS}
 use Rattle.squares.proofs.Laws.{eqb-same, le-or-lt, setOf-cong, single-rule, xor-rules, board-range}
 use Rattle.position.specs.Machine.{tab, cellAt, family}
-use Rattle.position.specs.Steps.{toggled, setsAfter}
+use Rattle.position.specs.Plans.{toggled}
 use Rattle.squares.proofs.Laws.{length-tab, getD-tab, getD-any, set-tab, tab-same}
 
 -- ---- a cell that is stored, and the others
@@ -126,6 +126,10 @@ module _ (sets : List Bitboard) (k : ℕ) (one : Bitboard) where
 toggle-none : (sets : List Bitboard) (one : Bitboard) → toggled sets 0 one ≡ sets
 unfolding toggled
 toggle-none sets one = refl
+
+-- the sets of the marks after from, which held c, and to, which held t, were emptied and v was put on to
+unfoldable pub setsAfter : (ℕ → ℕ) → List Bitboard → ℕ → ℕ → ℕ → Bitboard → Bitboard → List Bitboard
+setsAfter mark sets c t v from to = toggled (toggled (toggled sets (mark c) from) (mark t) to) (mark v) to
 
 -- a whole move: from is emptied, and v is put on to
 pub move-family : (mark : ℕ → ℕ) → mark 0 ≡ 0 → (count : ℕ) (cells : List ℕ) (from to v : ℕ)

@@ -5,6 +5,5 @@ pub mod Answers
 pub mod Moves
 pub mod Games
 pub mod Edits
-pub mod Steps
 pub mod Inner
 pub mod Plans

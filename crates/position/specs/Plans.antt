@@ -1,18 +1,17 @@
 -- A move planned in numbers, and what the functions of a move promise one another. No public promise cites this file.
 use Prim.Native.Nat.{ℕ, _+_, _-_, _≤_, _<_}
 use mathlib.Core.Path.{_≡_}
-use mathlib.Core.Bool.{Bool, true, false, cond}
+use mathlib.Core.Bool.{Bool, true, false, _||_, cond}
 use mathlib.Core.List.{List}
 use lib.ListN.{getD, set, replicate}
 use lib.Dec.{eqb}
 use Rattle.squares.specs.declared.bitboard.Bitboard.{Bitboard}
-use Rattle.squares.specs.Kinds.{goodColour, handKind, otherColour, colourOf, kindOf}
-use Rattle.squares.specs.Sets.{singleS}
+use Rattle.squares.specs.Kinds.{handKind, otherColour, colourOf, kindOf}
+use Rattle.squares.specs.Sets.{emptyS, singleS, xorS}
 use Rattle.position.specs.Machine.{noMove}
 use Rattle.position.specs.Sound.{sound}
 use Rattle.position.specs.Answers.{handAt}
 use Rattle.position.specs.Moves.{badMove, arriving, numbersOf, movePlayed}
-use Rattle.position.specs.Steps.{toggled, kingAfter, stepped}
 use Rattle.position.specs.Inner.{OnBoard}
 use Rattle.position.specs.declared.position.Position.{Position}
 use Rattle.position.specs.declared.plan.Plan.{Plan}
@@ -23,12 +22,6 @@ use Rattle.position.specs.declared.mv.Move.the-variants.{Normal, Drop}
 pub record Ready (p : Position) (m : Move) : Type 0 where
   pub good : badMove m ≡ false
   pub whole : sound p ≡ true
-
--- what the halves of the step ask
-pub record Steppable (p : Position) (m : Move) : Type 0 where
-  pub good : badMove m ≡ false
-  pub side : goodColour (p .side) ≡ true
-  pub ply : eqb (p .ply) 65535 ≡ false
 
 -- what putting the piece of a cell t into a hand asks
 pub record RoomFor (hands : List ℕ) (side t : ℕ) : Type 0 where
@@ -66,6 +59,14 @@ normalPlan from to promote c t hands =
 unfoldable pub dropPlan : ℕ → ℕ → ℕ → List ℕ → Plan
 dropPlan piece to c hands =
     record { number = 0; from = to; to = to; left = c; taken = 0; piece = piece; hands = hands; last = numbersOf (Drop piece to) }
+
+-- the square of one leaves the set of the mark k, or joins it; the mark of an empty cell, 0, has no set
+unfoldable pub toggled : List Bitboard → ℕ → Bitboard → List Bitboard
+toggled sets k one = cond (eqb k 0) sets (set sets (k - 1) (xorS (getD sets (k - 1) emptyS) one))
+
+-- the square of a king, which was `was`, after left and taken went from the board and arrived was put on to
+unfoldable pub kingAfter : ℕ → ℕ → ℕ → ℕ → ℕ → ℕ → ℕ
+kingAfter king was left taken arrived to = cond (eqb arrived king) to (cond (eqb left king || eqb taken king) 0 was)
 
 -- the position with all that the plan changes but the sets
 unfoldable pub storedBy : Position → Plan → Position
@@ -114,11 +115,6 @@ pub record Playable (p : Position) (plan : Plan) : Type 0 where
   pub at-to : OnBoard (plan .to)
   pub side : plan .number ≡ 0 → p .side ≤ 2
   pub ply : plan .number ≡ 0 → p .ply < 65535
-
--- a plan that does what the step is to do
-pub record StepPlan (p : Position) (m : Move) (plan : Plan) : Type 0 where
-  pub fits : Playable p plan
-  pub does : playedBy p plan ≡ stepped p m
 
 -- a plan that does what make_move is to do; square is the one that it answers
 pub record MovePlan (p : Position) (m : Move) (square : ℕ) (plan : Plan) : Type 0 where

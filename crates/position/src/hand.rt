@@ -5,7 +5,6 @@ ghost use lib.ListN.{getD};
 ghost use Rattle.squares.specs.Kinds.{kindOf, handKind};
 ghost use Rattle.position.specs.Answers.{handAt};
 ghost use Rattle.position.specs.Moves.{held, spent};
-ghost use Rattle.position.specs.Steps.{roomFor, holds};
 ghost use Rattle.position.specs.Plans.{RoomFor, Holds};
 use crate::cells::kind_of;
 use squares::FormAnswer;
@@ -65,29 +64,4 @@ pub(crate) fn spend(hands: [u8; 14], side: u8, piece: u8) -> [u8; 14]
     let mut out = hands;
     out[at] = out[at] - 1;
     out
-}
-
-// Whether the hand of `side` has room for the piece of a cell.
-pub(crate) fn has_room(hands: [u8; 14], side: u8, t: u8) -> bool
-    requires { ⌜ (1 ≤ side) × (side ≤ 2) ⌝ }
-    ensures { λ r. ⌜ r ≡ roomFor side t hands ⌝ }
-{
-    let k = hand_kind(t);
-    if k == 0 {
-        return true;
-    }
-    let at = index(side, k);
-    hands[at] < 255
-}
-
-// Whether it holds `piece`.
-pub(crate) fn has_piece(hands: [u8; 14], side: u8, piece: u8) -> bool
-    requires { ⌜ (1 ≤ side) × (side ≤ 2) × (1 ≤ kindOf piece) ⌝ }
-    ensures { λ r. ⌜ r ≡ holds side piece hands ⌝ }
-{
-    if kind_of(piece) <= 7 {
-        0 < in_hand(hands, side, piece)
-    } else {
-        false
-    }
 }

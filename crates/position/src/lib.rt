@@ -1,5 +1,6 @@
 // Positions and moves: the plain machine of cells and hands, with the sets that follow them.
 mod answers;
+mod carry;
 mod cells;
 mod edits;
 mod hand;
@@ -9,7 +10,6 @@ mod plan;
 mod position;
 mod queries;
 mod sound;
-mod step;
 
 pub use answers::Answer;
 pub use answers::KingAnswer;

@@ -9,40 +9,26 @@ ghost use Rattle.position.specs.Plans.{Ready, MovePlan};
 use crate::answers::Answer;
 use crate::answers::Stands;
 use crate::answers::Told;
+use crate::carry::store;
+use crate::carry::toggle;
 use crate::cells::cell;
 use crate::cells::color_of;
-use crate::cells::is_piece;
 use crate::cells::kind_of;
-use crate::cells::on_board;
 use crate::cells::promoted;
 use crate::cells::standing;
 use crate::hand::hold;
 use crate::hand::in_hand;
 use crate::hand::spend;
 use crate::mv::Move;
+use crate::mv::bad_move;
 use crate::plan::Plan;
 use crate::plan::drop_plan;
 use crate::plan::normal_plan;
 use crate::plan::refused;
 use crate::position::Position;
 use crate::sound::told;
-use crate::step::store;
-use crate::step::toggle;
 
 // ---- the facts of a move, each by itself
-
-pub(crate) fn bad_move(m: Move) -> bool
-    ensures { λ r. ⌜ r ≡ badMove m ⌝ }
-{
-    match m {
-        Move::Normal {
-            from,
-            to,
-            promote: _,
-        } => { if on_board(from) { !on_board(to) } else { true } }
-        Move::Drop { piece, to } => { if is_piece(piece) { !on_board(to) } else { true } }
-    }
-}
 
 fn is_of(c: u8, color: u8) -> bool
     ensures { λ r. ⌜ r ≡ eqb (colourOf c) color ⌝ }
@@ -184,7 +170,7 @@ impl Position {
     {
         let first = told(bad_move(m), self);
         let plan = make_plan(self, m, first);
-        // As in `step`: a function of these four calls would copy the position twice more.
+        // A function of these four calls would copy the position twice more.
         let q = store(self, plan);
         let q = toggle(q, plan.left, plan.from);
         let q = toggle(q, plan.taken, plan.to);

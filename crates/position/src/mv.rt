@@ -1,7 +1,9 @@
 // Moves, as calls speak of them and as a position stores them.
 ghost use mathlib.Core.Path.{_≡_};
 ghost use Rattle.position.specs.Machine.{noMove};
-ghost use Rattle.position.specs.Moves.{numbersOf};
+ghost use Rattle.position.specs.Moves.{badMove, numbersOf};
+use crate::cells::is_piece;
+use crate::cells::on_board;
 
 pub enum Move {
     Normal { from: u8, to: u8, promote: bool },
@@ -55,5 +57,19 @@ impl MoveNumbers {
                 promote: 0,
             },
         }
+    }
+}
+
+// Whether a number of the move is out of range.
+pub(crate) fn bad_move(m: Move) -> bool
+    ensures { λ r. ⌜ r ≡ badMove m ⌝ }
+{
+    match m {
+        Move::Normal {
+            from,
+            to,
+            promote: _,
+        } => { if on_board(from) { !on_board(to) } else { true } }
+        Move::Drop { piece, to } => { if is_piece(piece) { !on_board(to) } else { true } }
     }
 }

@@ -1,7 +1,7 @@
 use native.Mathlib.Omega.{arith}
 use Rattle.position.specs.Moves.{badMove}
-use Rattle.position.proofs.moves.bad_move.Statement.{statement}
-use Rattle.position.proofs.moves.bad_move.Tie as tie
+use Rattle.position.proofs.mv.bad_move.Statement.{statement}
+use Rattle.position.proofs.mv.bad_move.Tie as tie
 
 returns : tie.Need-returns
 unfolding badMove

@@ -3,8 +3,8 @@ use borrow.Author.Tests.{eq-eqb, ne-eqb}
 use Rattle.squares.specs.Kinds.{otherColour}
 use Rattle.position.specs.Plans.{storedBy}
 use borrow.Author.Needs.{needs}
-use Rattle.position.proofs.step.store.Statement.{statement}
-use Rattle.position.proofs.step.store.Tie as tie
+use Rattle.position.proofs.carry.store.Statement.{statement}
+use Rattle.position.proofs.carry.store.Tie as tie
 
 sub-q : tie.Need-sub-q
 sub-q c = let t = c .before .before .before .before .before in omega (arith, t .before .before .pre .side (t .if1 .taken))

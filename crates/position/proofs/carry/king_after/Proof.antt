@@ -1,7 +1,7 @@
 use borrow.Author.Tests.{eq-eqb, ne-eqb}
-use Rattle.position.specs.Steps.{kingAfter}
-use Rattle.position.proofs.step.king_after.Statement.{statement}
-use Rattle.position.proofs.step.king_after.Tie as tie
+use Rattle.position.specs.Plans.{kingAfter}
+use Rattle.position.proofs.carry.king_after.Statement.{statement}
+use Rattle.position.proofs.carry.king_after.Tie as tie
 
 returns : tie.Need-returns
 unfolding kingAfter

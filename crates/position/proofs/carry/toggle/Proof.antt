@@ -8,8 +8,8 @@ use Rattle.squares.proofs.Laws.{piece-kind}
 use Rattle.position.specs.Machine.{Sized}
 use Rattle.position.proofs.Sizes.{sized}
 use Rattle.position.proofs.Playing.{colour-in, Coloured, colour-toggled, colour-same, kind-toggled, kind-same}
-use Rattle.position.proofs.step.toggle.Statement.{statement}
-use Rattle.position.proofs.step.toggle.Tie as tie
+use Rattle.position.proofs.carry.toggle.Statement.{statement}
+use Rattle.position.proofs.carry.toggle.Tie as tie
 
 size : (s : tie.Start) → Sized (s .args .p)
 size s = sized _ _ (s .good .0)

@@ -6,13 +6,33 @@ use native.Mathlib.Omega.{arith}
 use lib.ListN.{length, set}
 use borrow.Author.Tests.{eqb-false}
 use Rattle.squares.specs.Kinds.{otherColour, colourOf, kindOf}
+use Rattle.squares.specs.Sets.{singleS}
 use Rattle.squares.proofs.Laws.{empty-colour, black-kind}
 use Rattle.position.specs.Machine.{Machine, full, cellAt, kingSquare}
-use Rattle.position.specs.Steps.{carried}
+use Rattle.position.specs.Plans.{kingAfter}
 use Rattle.position.specs.declared.mv.MoveNumbers.{MoveNumbers}
-use Rattle.position.proofs.Stores.{move-family}
+use Rattle.position.specs.declared.position.Position.{Position}
+use Rattle.position.proofs.Stores.{setsAfter, move-family}
 use Rattle.position.proofs.Kings.{king-square, king-moves}
 use Rattle.position.proofs.InOrder.{InOrder}
+
+-- from is emptied and v is put on to
+unfoldable pub carried : Position → ℕ → ℕ → ℕ → List ℕ → MoveNumbers → Position
+carried p from to v hands last =
+    let cells = set (p .board) (from - 1) 0 in
+    let c = cellAt (p .board) from in
+    let t = cellAt cells to in
+    record {
+      board = set cells (to - 1) v;
+      hands = hands;
+      bking = kingAfter 8 (p .bking) c t v to;
+      wking = kingAfter 24 (p .wking) c t v to;
+      side = otherColour (p .side);
+      last = last;
+      ply = p .ply + 1;
+      players = setsAfter colourOf (p .players) c t v (singleS from) (singleS to);
+      kinds = setsAfter kindOf (p .kinds) c t v (singleS from) (singleS to);
+    }
 
 -- the position of a machine: its sets and king squares stay those of the cells
 pub carry-full : (m : Machine) (from to v : ℕ) (hands : List ℕ) (last : MoveNumbers) → InOrder m → length (m .cells) ≡ 81
