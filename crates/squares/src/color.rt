@@ -1,5 +1,6 @@
 // Colours by number: Black 1, White 2.
 ghost use mathlib.Core.Path.{_≡_};
+ghost use Rattle.squares.specs.Kinds.{goodColour};
 ghost use Rattle.squares.specs.Answers.{numberGiven, otherColourAnswer};
 use crate::answers::NumberAnswer;
 
@@ -11,6 +12,15 @@ impl Color {
     pub const BLACK: u8 = 1;
 
     pub const WHITE: u8 = 2;
+
+    pub fn is_good(color: u8) -> bool
+        ensures { λ r. ⌜ r ≡ goodColour color ⌝ }
+    {
+        match color {
+            1..=2 => true,
+            _ => false,
+        }
+    }
 
     pub fn flip(color: u8) -> NumberAnswer
         ensures { λ r. ⌜ numberGiven r ≡ otherColourAnswer color ⌝ }

@@ -10,7 +10,16 @@ use crate::piece_kind::PieceKind;
 pub struct Piece;
 
 impl Piece {
-    // Whether a cell may hold this number.
+    // Whether a cell may hold this number: a piece's, or 0.
+    pub fn is_cell(cell: u8) -> bool
+        ensures { λ r. ⌜ r ≡ goodCell cell ⌝ }
+    {
+        match cell {
+            0..=14 | 17..=30 => true,
+            _ => false,
+        }
+    }
+
     pub fn is_good(cell: u8) -> bool
         ensures { λ r. ⌜ r ≡ goodCell cell ⌝ }
     {

@@ -1,6 +1,7 @@
 // Kinds of pieces by number: 1 Pawn, 2 Lance, 3 Knight, 4 Silver, 5 Gold, 6 Bishop, 7 Rook, 8 King, 9 to 12 promoted
 // Pawn, Lance, Knight, Silver, 13 promoted Bishop, 14 promoted Rook.
 ghost use mathlib.Core.Path.{_≡_};
+ghost use Rattle.squares.specs.Kinds.{goodKind};
 ghost use Rattle.squares.specs.Answers.{numberGiven, formGiven, promotedAnswer, unpromotedAnswer, limitAnswer, letterAnswer, handKindAnswer};
 use crate::answers::FormAnswer;
 use crate::answers::NumberAnswer;
@@ -9,6 +10,15 @@ pub struct PieceKind;
 
 impl PieceKind {
     pub const NUM: usize = 14;
+
+    pub fn is_good(kind: u8) -> bool
+        ensures { λ r. ⌜ r ≡ goodKind kind ⌝ }
+    {
+        match kind {
+            1..=14 => true,
+            _ => false,
+        }
+    }
 
     // The promoted form, or nothing: Gold, King and promoted kinds do not promote.
     pub fn promote(kind: u8) -> FormAnswer

@@ -1,5 +1,6 @@
 // Squares by number, 1 to 81: nine times the file less nine, plus the rank.
 ghost use mathlib.Core.Path.{_≡_};
+ghost use Rattle.squares.specs.Board.{onBoard};
 ghost use Rattle.squares.specs.Answers.{numberGiven, squareAnswer, fileAnswer, rankAnswer, flipAnswer};
 use crate::answers::NumberAnswer;
 
@@ -7,6 +8,15 @@ pub struct Square;
 
 impl Square {
     pub const NUM: usize = 81;
+
+    pub fn is_good(square: u8) -> bool
+        ensures { λ r. ⌜ r ≡ onBoard 9 square ⌝ }
+    {
+        match square {
+            1..=81 => true,
+            _ => false,
+        }
+    }
 
     pub fn new(file: u8, rank: u8) -> NumberAnswer
         ensures { λ r. ⌜ numberGiven r ≡ squareAnswer file rank ⌝ }
