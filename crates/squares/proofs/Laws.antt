@@ -18,7 +18,11 @@ pub use Rattle.squares.proofs.Steps.{both, decided, eqb-same, board-ran
 pub use Rattle.squares.proofs.Steps.{file-side, rank-side, at-back, at-on, at-off, at-board, at-file, at-rank}
 pub use Rattle.squares.proofs.Steps.{step-off, step-zero, step-none, step-long, step-add, step-back, step-iff}
 pub use Rattle.squares.proofs.Members.{le-or-lt, has-setOf, setOf-cong, setOf-has, clean-setOf, clean-has, has-off, has-on, has-emptyS}
+pub use Rattle.squares.proofs.Rules.{empty-rule, single-rule, or-rules, and-rules, xor-rules, andnot-rules, not-rule, shift-rule}
+pub use Rattle.squares.proofs.Exact.{exactly-set, set-exactly, exactly-not, exactly-same, exactly-other, exactly-rule, exactly-no-rule}
 pub use Rattle.squares.proofs.ByCell.{by-cell-at, by-cell-last}
+pub use Rattle.squares.proofs.Families.{family-at, family-clean, family-same, family-differs, family-zeros}
+pub use Rattle.squares.proofs.Marking.{all-good, good-all, marks-told, marks-refused, marks-of-good}
 pub use Rattle.squares.proofs.Tests.{all, all-at, allFrom, rows-truth}
 pub use Rattle.squares.proofs.Counts.{count-same, count-add, count-sum, count-change, size-rule}
 pub use Rattle.squares.proofs.Least.{First, smallest-is, smallest-at, smallest-none, size-without, count-none, size-none, size-le, empty-size, empty-none, empty-some, empty-has}
@@ -104,46 +108,6 @@ unfolding shiftS singleS
 shift-single dir d a =
     setOf-cong (λ n. has (singleS a) (step 9 (opposite dir) d n)) (eqb (step 9 dir d a))
     (λ n o. has-singleS a (step 9 (opposite dir) d n) ∙ step-iff 9 dir d a n o)
-
--- ---- sets that are given by rules: a caller keeps every set in the form `setOf rule`
-rules : (op : Bool → Bool → Bool) (f g : ℕ → Bool) → setOf (λ n. op (has (setOf f) n) (has (setOf g) n)) ≡ setOf (λ n. op (f n) (g n))
-rules op f g =
-    setOf-cong (λ n. op (has (setOf f) n) (has (setOf g) n)) (λ n. op (f n) (g n))
-    (λ n o. ap₂ op (has-setOf f n ∙ ap (λ (t : Bool). t && f n) o) (has-setOf g n ∙ ap (λ (t : Bool). t && g n) o))
-
-pub empty-rule : emptyS ≡ setOf (λ n. false)
-unfolding emptyS
-empty-rule = refl
-
-pub single-rule : (m : ℕ) → singleS m ≡ setOf (eqb m)
-unfolding singleS
-single-rule m = refl
-
-pub or-rules : (f g : ℕ → Bool) → orS (setOf f) (setOf g) ≡ setOf (λ n. f n || g n)
-unfolding orS
-or-rules = rules (λ p q. p || q)
-
-pub and-rules : (f g : ℕ → Bool) → andS (setOf f) (setOf g) ≡ setOf (λ n. f n && g n)
-unfolding andS
-and-rules = rules (λ p q. p && q)
-
-pub xor-rules : (f g : ℕ → Bool) → xorS (setOf f) (setOf g) ≡ setOf (λ n. not (Bool·beq (f n) (g n)))
-unfolding xorS
-xor-rules = rules (λ p q. not (Bool·beq p q))
-
-pub andnot-rules : (f g : ℕ → Bool) → andnotS (setOf f) (setOf g) ≡ setOf (λ n. not (f n) && g n)
-unfolding andnotS
-andnot-rules = rules (λ p q. not p && q)
-
-pub not-rule : (f : ℕ → Bool) → notS (setOf f) ≡ setOf (λ n. not (f n))
-unfolding notS
-not-rule f = rules (λ p q. not p) f f
-
-pub shift-rule : (dir : Direction) (d : ℕ) (f : ℕ → Bool) → shiftS dir d (setOf f) ≡ setOf (λ n. onBoard 9 (step 9 (opposite dir) d n) && f (step 9 (opposite dir) d n))
-unfolding shiftS
-shift-rule dir d f =
-    setOf-cong (λ n. has (setOf f) (step 9 (opposite dir) d n)) (λ n. onBoard 9 (step 9 (opposite dir) d n) && f (step 9 (opposite dir) d n))
-    (λ n o. has-setOf f (step 9 (opposite dir) d n))
 
 -- a set by its members: no stray bit, and the members at every number
 pub by-members : (r : Bitboard) (f : ℕ → Bool) → r .lo < 2 ^ 63 → r .hi < 2 ^ 18 → ((n : ℕ) → has r n ≡ onBoard 9 n && f n) → r ≡ setOf f

@@ -1,12 +1,15 @@
 -- The answer of each call: document 01's number, and the values that go with it.
 use Prim.Native.Nat.{ℕ}
-use mathlib.Core.Bool.{Bool, true, false, _&&_, not}
+use mathlib.Core.List.{List}
+use lib.ListN.{replicate}
+use mathlib.Core.Bool.{Bool, true, false, _&&_, not, cond}
 use lib.Dec.{eqb, leb, ltb}
 use Rattle.squares.specs.Board.{onSide, onBoard, squareAt, fileOf, rankOf, flipTo}
 use Rattle.squares.specs.Kinds.{kindRow, goodKind, handKind, goodColour, otherColour, goodPiece, pieceOf, kindOf, colourOf, promotedPiece, unpromotedPiece}
-use Rattle.squares.specs.Sets.{has, emptyS, singleS, isEmpty, fileS, patternOf, smallest, withoutS, shiftS}
+use Rattle.squares.specs.Sets.{has, emptyS, singleS, isEmpty, fileS, patternOf, smallest, withoutS, shiftS, allGood, family}
 use Rattle.squares.specs.declared.bitboard.Bitboard.{Bitboard}
 use Rattle.squares.specs.declared.bitboard.Direction.{Direction}
+use Rattle.squares.specs.declared.marks.Marks.{Marks}
 use Rattle.squares.specs.declared.answers.NumberAnswer.{NumberAnswer}
 use Rattle.squares.specs.declared.answers.NumberAnswer.the-variants as Number
 use Rattle.squares.specs.declared.answers.FormAnswer.{FormAnswer}
@@ -194,3 +197,9 @@ popAnswer s = record { number = 0; found = not (isEmpty s); square = smallest s;
 -- Bitboard::shift: "Shifts by 0..9"; "10 and up: 2"
 unfoldable pub shiftAnswer : Direction → ℕ → Bitboard → SetValue
 shiftAnswer dir d s = setIf (leb d 9) (shiftS dir d s)
+
+-- Marks::of: "Two colour sets and fourteen kind sets of squares"; of a bad cell 2, and every set is empty
+unfoldable pub marksAnswer : List ℕ → Marks
+marksAnswer cells =
+    cond (allGood cells) (record { number = 0; players = family colourOf 2 cells; kinds = family kindOf 14 cells })
+    (record { number = 2; players = replicate 2 emptyS; kinds = replicate 14 emptyS })

@@ -6,6 +6,7 @@ use lib.ListN.{getD}
 use lib.Dec.{eqb, leb, ltb}
 use Rattle.squares.specs.Bit.{bit, digit, word}
 use Rattle.squares.specs.Board.{onBoard, fileOf, rankOf, flipTo, opposite, step}
+use Rattle.squares.specs.Kinds.{goodCell}
 use Rattle.squares.specs.declared.bitboard.Bitboard.{Bitboard}
 use Rattle.squares.specs.declared.bitboard.Direction.{Direction}
 
@@ -63,6 +64,10 @@ size s = countOf (has s) 1 81
 unfoldable pub isEmpty : Bitboard → Bool
 isEmpty s = eqb (size s) 0
 
+-- "match the cells exactly, with no stray bits": the first has no stray bit, and just the squares of the second
+unfoldable pub exactly : Bitboard → Bitboard → Bool
+exactly s t = clean s && isEmpty (xorS s t)
+
 -- "One file from a 9-bit pattern (bit 0 is rank A)"
 unfoldable pub fileS : ℕ → ℕ → Bitboard
 fileS f p = setOf (λ n. eqb (fileOf 9 n) f && bit (rankOf 9 n - 1) p)
@@ -105,6 +110,10 @@ cellAt cells n = getD cells (n - 1) 0
 -- count the set of the squares whose cell has that mark, its colour or its kind
 unfoldable pub family : (ℕ → ℕ) → ℕ → List ℕ → List Bitboard
 family mark count cells = tab (λ k. setOf (λ n. eqb (mark (cellAt cells n)) k)) 1 count
+
+-- "Every cell value is good": of the 81 none is bad
+unfoldable pub allGood : List ℕ → Bool
+allGood cells = eqb (countOf (λ n. not (goodCell (cellAt cells n))) 1 81) 0
 
 -- a mark for each cell number: one more than it, and the same for all from 31 on
 unfoldable pub cellMark : ℕ → ℕ

@@ -3,7 +3,7 @@
 ghost use mathlib.Core.Path.{_≡_};
 ghost use Prim.Native.Nat.{_≤_, _<_};
 ghost use Rattle.squares.specs.Bit.{reversed9};
-ghost use Rattle.squares.specs.Sets.{has, setOf, emptyS, orS, andS, xorS, andnotS, notS, size, isEmpty, fileS, patternOf, flipS};
+ghost use Rattle.squares.specs.Sets.{has, setOf, emptyS, orS, andS, xorS, andnotS, notS, size, isEmpty, exactly, fileS, patternOf, flipS};
 ghost use Rattle.squares.specs.Answers.{setGiven, truthGiven, patternGiven, popGiven, singleAnswer, containsAnswer, fromFileAnswer, getFileAnswer, popAnswer, shiftAnswer};
 use crate::answers::PatternAnswer;
 use crate::answers::PopAnswer;
@@ -73,6 +73,17 @@ impl Bitboard {
     {
         let kept = (self.lo & Self::MASK0) | (self.hi & Self::MASK1);
         kept == 0
+    }
+
+    // Whether it has no stray bit, and just the squares of the other.
+    pub fn is_exactly(self, other: Self) -> bool
+        ensures { λ r. ⌜ r ≡ exactly self other ⌝ }
+    {
+        if self.lo == other.lo & Self::MASK0 {
+            self.hi == other.hi & Self::MASK1
+        } else {
+            false
+        }
     }
 
     pub fn contains(self, square: u8) -> TruthAnswer
