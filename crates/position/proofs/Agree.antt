@@ -9,13 +9,12 @@ use native.Mathlib.Numerals.{add-one}
 use lib.ListN.{length, getD}
 use lib.Seq.{ext-getD}
 use lib.Dec.{eqb}
-use borrow.Author.Tests.{eq-eqb, eqb-true}
 use borrow.Author.Count.{below-more}
 use Rattle.squares.specs.declared.bitboard.Bitboard.{Bitboard}
-use Rattle.squares.specs.Sets.{has, emptyS}
-use Rattle.squares.proofs.Laws.{both, le-or-lt, getD-any}
+use Rattle.squares.specs.Sets.{has, clean, emptyS, exactly}
+use Rattle.squares.proofs.Laws.{le-or-lt, getD-any, exactly-same, exactly-other}
 use Rattle.position.specs.Sound.{anyBelow, disagrees}
-use Rattle.position.specs.Inner.{sameWords, Compared}
+use Rattle.position.specs.Inner.{AllClean, Compared}
 
 -- ---- some number below k
 pub any-none : (f : ℕ → Bool) → anyBelow f 0 ≡ false
@@ -68,34 +67,26 @@ pub beq-same : (t : Bool) → not (Bool·beq t t) ≡ false
 beq-same true = refl
 beq-same false = refl
 
--- ---- equal words
-pub words-same : (a b : Bitboard) → sameWords a b ≡ true → a ≡ b
-unfolding sameWords
-words-same a b e =
-    let p = both (eqb (a .lo) (b .lo)) (eqb (a .hi) (b .hi)) e in
-    ap₂ (λ (x y : ℕ). record { lo = x; hi = y }) (eqb-true (a .lo) (b .lo) (p .0)) (eqb-true (a .hi) (b .hi) (p .1))
+-- ---- lists of sets, the second without stray bits
+module _ (a b : List Bitboard) (k : ℕ) (la : length a ≡ k) (lb : length b ≡ k) (c : AllClean b) where
+  clean-at : (j : ℕ) (e : Bitboard) → j < k → clean (getD b j e) ≡ true
+  clean-at j e h = ap clean (getD-any b j e emptyS (omega arith)) ∙ c j (omega arith)
 
-words-refl : (a b : Bitboard) → a ≡ b → sameWords a b ≡ true
-unfolding sameWords
-words-refl a b e = rw (eq-eqb (a .lo) (b .lo) (ap (λ (s : Bitboard). s .lo) e), eq-eqb (a .hi) (b .hi) (ap (λ (s : Bitboard). s .hi) e))
-
-module _ (a b : List Bitboard) (k : ℕ) (la : length a ≡ k) (lb : length b ≡ k) where
   pub compared-all : ((j : ℕ) → j < k → getD a j emptyS ≡ getD b j emptyS) → Compared a b true
   compared-all h = record { same = λ _. ext-getD emptyS a b (la ∙ sym lb) (λ j q. h j (omega arith)); differ = λ z. absurd (true≢false z) }
 
-  pub compared-at : (j : ℕ) (d e : Bitboard) → j < k → sameWords (getD a j d) (getD b j e) ≡ false → Compared a b false
+  pub compared-at : (j : ℕ) (d e : Bitboard) → j < k → exactly (getD a j d) (getD b j e) ≡ false → Compared a b false
   compared-at j d e h w =
       record {
         same = λ z. absurd (false≢true z);
-        differ = λ _ q.
-            absurd (true≢false (sym (words-refl (getD a j d) (getD b j e) (getD-any a j d e (omega arith) ∙ ap (λ (l : List Bitboard). getD l j e) q)) ∙ w));
+        differ = λ _ q. exactly-other (getD a j d) (getD b j e) (clean-at j e h) w (getD-any a j d e (omega arith) ∙ ap (λ (l : List Bitboard). getD l j e) q);
       }
 
-  pub equal-at : (j : ℕ) (d e : Bitboard) → j < k → sameWords (getD a j d) (getD b j e) ≡ true → getD a j emptyS ≡ getD b j emptyS
-  equal-at j d e h w = getD-any a j emptyS d (omega arith) ∙ words-same (getD a j d) (getD b j e) w ∙ getD-any b j e emptyS (omega arith)
+  pub equal-at : (j : ℕ) (d e : Bitboard) → j < k → exactly (getD a j d) (getD b j e) ≡ true → getD a j emptyS ≡ getD b j emptyS
+  equal-at j d e h w = getD-any a j emptyS d (omega arith) ∙ exactly-same (getD a j d) (getD b j e) (clean-at j e h) w ∙ getD-any b j e emptyS (omega arith)
 
   -- where all others are equal, the last decides
-  pub compared-last : (j : ℕ) (d e : Bitboard) (r : Bool) → j + 1 ≡ k → ((i : ℕ) → i < j → getD a i emptyS ≡ getD b i emptyS) → r ≡ sameWords (getD a j d) (getD b j e) → Compared a b r
+  pub compared-last : (j : ℕ) (d e : Bitboard) (r : Bool) → j + 1 ≡ k → ((i : ℕ) → i < j → getD a i emptyS ≡ getD b i emptyS) → r ≡ exactly (getD a j d) (getD b j e) → Compared a b r
   compared-last j d e true z h w =
       compared-all (λ i q. below-more (λ n. getD a n emptyS ≡ getD b n emptyS) j h (equal-at j d e (omega arith) (sym w)) i (omega arith))
   compared-last j d e false z h w = compared-at j d e (omega arith) (sym w)

@@ -6,32 +6,35 @@ use mathlib.Core.Logic.{⊎-elim}
 use mathlib.Core.List.{List}
 use native.Mathlib.Omega.{arith}
 use native.Mathlib.Decide.{ℕ-discrete}
-use lib.ListN.{getD}
+use lib.ListN.{length, getD}
 use lib.Dec.{eqb, leb}
-use borrow.Author.Tests.{eq-eqb, ne-eqb, leb-true, not-true, not-false}
+use borrow.Author.Tests.{eq-eqb, ne-eqb, eqb-true, eqb-false, leb-true, not-true, not-false}
 use Rattle.squares.specs.declared.bitboard.Bitboard.{Bitboard}
 use Rattle.squares.specs.Board.{onBoard}
 use Rattle.squares.specs.Kinds.{goodColour, goodKind, goodPiece, goodCell, colourOf, kindOf}
 use Rattle.squares.specs.Sets.{setOf, emptyS, andS, orS, notS}
-use Rattle.squares.proofs.Laws.{both, good-cells, le-or-lt, board-range, setOf-cong, or-rules, not-rule, colour-range, kind-range}
+use Rattle.squares.proofs.Laws.{both, decided, good-cells, le-or-lt, board-range, getD-any, setOf-cong, and-rules, or-rules, not-rule, colour-range, kind-range, piece-kind, black-kind, black-colour, white-colour, piece-by, family-at}
 use Rattle.position.specs.Machine.{Sized, cellAt, family, kingSquare}
 use Rattle.position.specs.Sound.{anyBelow, strayIn, kingWrong, firstFault, faultElsewhere, sound}
-use Rattle.position.specs.Inner.{Tidy}
-use Rattle.position.specs.Answers.{firstFact, toldBy, queryFacts, toldQuery, answered, stood, pieceAtAnswer, setAnswer, occupiedAnswer, sideAnswer, plyAnswer, handAt, goodHandKind, handAnswer, kingAt, kingAnswer, lastMove, lastAnswer}
+use Rattle.position.specs.Inner.{Tidy, markSet, toldSet}
+use Rattle.position.specs.Answers.{firstFact, toldBy, queryFacts, toldQuery, answered, stood, pieceAtAnswer, setAnswer, sideAnswer, plyAnswer, handAt, goodHandKind, handAnswer, kingAt, kingAnswer, lastMove, lastAnswer}
 use Rattle.position.specs.declared.position.Position.{Position}
 use Rattle.position.specs.declared.answers.Told.{Told}
 use Rattle.position.specs.declared.answers.Stands.{Stands}
 use Rattle.position.specs.declared.answers.Stands.the-variants as Stand
-use Rattle.position.specs.declared.answers.SetAnswer.{SetAnswer}
 use Rattle.position.specs.declared.answers.KingSquare.{KingSquare}
 use Rattle.position.specs.declared.answers.KingSquare.the-variants as King
 use Rattle.position.specs.declared.mv.LastMove.{LastMove}
 use Rattle.position.specs.declared.mv.LastMove.the-variants as Last
-use Rattle.position.proofs.Tidiness.{family-at, sound-tidy, player-set, piece-of}
+use Rattle.position.proofs.Tidiness.{sound-tidy, player-set}
+use Rattle.position.proofs.Pieces.{positive}
 use Rattle.position.proofs.Kings.{king-is, king-square}
 use Rattle.position.proofs.Agree.{or-false-both}
 
 -- ---- the number that comes before the value
+pub heard-as : (p : Position) (t : Told) (b good : Bool) → t ≡ toldQuery (not b) p → b ≡ good → t ≡ toldQuery (not good) p
+heard-as p t b good e g = e ∙ ap (λ (x : Bool). toldQuery (not x) p) g
+
 module _ (p : Position) (bad : Bool) (t : Told) (e : t ≡ toldQuery bad p) where
   pub refused : (t .number ≡ 0 → ⊥) → answered bad p ≡ false
   unfolding toldQuery toldBy answered
@@ -56,27 +59,60 @@ module _ (p : Position) (bad : Bool) (t : Told) (e : t ≡ toldQuery bad p) wher
   pub done-sound : t .number ≡ 0 → sound p ≡ true
   done-sound h = facts h .1
 
-  pub set-refused : (test : ℕ → Bool) → (t .number ≡ 0 → ⊥) → record { told = t; set = emptyS } ≡ setAnswer bad test p
-  unfolding setAnswer
-  set-refused test h = rw (refused h, ← e)
-
-  pub set-done : (test : ℕ → Bool) (s : Bitboard) → t .number ≡ 0 → s ≡ setOf (λ n. test (cellAt (p .board) n)) → record { told = t; set = s } ≡ setAnswer bad test p
-  unfolding setAnswer
-  set-done test s h q = rw (done h, ← e, q)
+  -- a set is answered where no number refuses
+  pub set-told : (test : ℕ → Bool) (s : Bitboard) → (bad ≡ false → sound p ≡ true → s ≡ setOf (λ n. test (cellAt (p .board) n))) → toldSet t s ≡ setAnswer bad test p
+  unfolding toldSet setAnswer
+  set-told test s h =
+      ⊎-elim (λ (z : eqb (t .number) 0 ≡ true). let n = eqb-true (t .number) 0 z in rw (z, done n, ← e, h (done-good n) (done-sound n)))
+      (λ (z : eqb (t .number) 0 ≡ false). rw (z, refused (eqb-false (t .number) 0 z), ← e)) (decided (eqb (t .number) 0))
 
 -- ---- a cell with a colour is not empty
 colour-none : (x : ℕ) → goodCell x ≡ true → eqb (colourOf x) 1 || eqb (colourOf x) 2 ≡ not (eqb x 0)
 unfolding goodCell goodPiece goodKind colourOf kindOf
 colour-none = good-cells (λ x. eqb (colourOf x) 1 || eqb (colourOf x) 2) (λ x. not (eqb x 0)) tt
 
+-- ---- the set of a mark
+mark-set : (mark : ℕ → ℕ) (count : ℕ) (cells : List ℕ) (sets : List Bitboard) (k : ℕ) → sets ≡ family mark count cells → 1 ≤ k → k ≤ count
+    → markSet sets k ≡ setOf (λ n. eqb (mark (cellAt cells n)) k)
+unfolding markSet
+mark-set mark count cells sets k e l h =
+    let z : 1 + (k - 1) ≡ k = omega arith in
+    rw e (family-at mark count cells (k - 1) emptyS (omega arith) ∙ ap (λ (i : ℕ). setOf (λ n. eqb (mark (cellAt cells n)) i)) z)
+
+-- as the code reads it
+pub mark-at : (sets : List Bitboard) (k : ℕ) (d : Bitboard) → 1 ≤ k → k ≤ length sets → getD sets (k - 1) d ≡ markSet sets k
+unfolding markSet
+mark-at sets k d l h = getD-any sets (k - 1) d emptyS (omega arith)
+
+-- ---- a piece has a colour
+piece-colour : (v : ℕ) → goodPiece v ≡ true → goodColour (colourOf v) ≡ true
+unfolding goodColour
+piece-colour v g =
+    let k = piece-kind v g in
+    let some : v ≡ 0 → ⊥ = λ z. let none : kindOf v ≡ 0 = ap kindOf z ∙ black-kind 0 (omega arith) in omega arith in
+    ⊎-elim (λ (h : v ≤ 16). rw (black-colour v (positive v some) h)) (λ (h : 16 < v). rw (white-colour v h)) (le-or-lt v 16)
+
 -- ---- the sets of a sound position
 module _ (p : Position) (z : Sized p) (s : sound p ≡ true) where
   tidy : Tidy p
   tidy = sound-tidy p z s
 
-  pub piece-set : (v i j : ℕ) (d e : Bitboard) → goodPiece v ≡ true → i + 1 ≡ colourOf v → i < 2 → j + 1 ≡ kindOf v → j < 14
-      → andS (getD (p .players) i d) (getD (p .kinds) j e) ≡ setOf (λ n. eqb (cellAt (p .board) n) v)
-  piece-set = piece-of p tidy
+  pub colour-set : (c : ℕ) → goodColour c ≡ true → markSet (p .players) c ≡ setOf (λ n. eqb (colourOf (cellAt (p .board) n)) c)
+  colour-set c g = let r = colour-range c g in mark-set colourOf 2 (p .board) (p .players) c (tidy .players) (r .0) (r .1)
+
+  pub kind-set : (k : ℕ) → goodKind k ≡ true → markSet (p .kinds) k ≡ setOf (λ n. eqb (kindOf (cellAt (p .board) n)) k)
+  kind-set k g = let r = kind-range k g in mark-set kindOf 14 (p .board) (p .kinds) k (tidy .kinds) (r .0) (r .1)
+
+  -- a piece's set, by its colour i and its kind j
+  pub piece-set : (v : ℕ) → goodPiece v ≡ true → (i j : ℕ) (a b : Bitboard) → i ≡ colourOf v → (goodColour i ≡ true → a ≡ markSet (p .players) i)
+      → j ≡ kindOf v → (goodKind j ≡ true → b ≡ markSet (p .kinds) j) → andS a b ≡ setOf (λ n. eqb (cellAt (p .board) n) v)
+  unfolding goodPiece
+  piece-set v g i j a b ei ea ej eb =
+      let c : goodColour (colourOf v) ≡ true = piece-colour v g in
+      ap₂ andS (ea (ap goodColour ei ∙ c) ∙ ap (markSet (p .players)) ei ∙ colour-set (colourOf v) c) (eb (ap goodKind ej ∙ g) ∙ ap (markSet (p .kinds)) ej ∙ kind-set (kindOf v) g)
+      ∙ and-rules (λ n. eqb (colourOf (cellAt (p .board) n)) (colourOf v)) (λ n. eqb (kindOf (cellAt (p .board) n)) (kindOf v))
+      ∙ setOf-cong (λ n. eqb (colourOf (cellAt (p .board) n)) (colourOf v) && eqb (kindOf (cellAt (p .board) n)) (kindOf v)) (λ n. eqb (cellAt (p .board) n) v)
+      (λ n o. let r = board-range 9 n o in piece-by (cellAt (p .board) n) v (tidy .cells n (r .0) (r .1)) g)
 
   pub occupied-set : (d e : Bitboard) → orS (getD (p .players) 0 d) (getD (p .players) 1 e) ≡ setOf (λ n. not (eqb (cellAt (p .board) n) 0))
   occupied-set d e =
@@ -93,36 +129,6 @@ vacant-set p =
     twice : (t : Bool) → not (not t) ≡ t
     twice true = refl
     twice false = refl
-
--- ---- the query of the set of a mark: the number told, the mark's range, and the sets of a sound position
-pub record AskedMark (p : Position) (mark : ℕ → ℕ) (count : ℕ) (sets : List Bitboard) (k : ℕ) (good : Bool) (t : Told) : Type 0 where
-  pub told : t ≡ toldQuery (not good) p
-  pub range : good ≡ true → (1 ≤ k) × (k ≤ count)
-  pub made : sound p ≡ true → sets ≡ family mark count (p .board)
-
-module _ (p : Position) (k : ℕ) (t : Told) (test : Bool) (z : Sized p) (e : t ≡ toldQuery (not test) p) where
-  pub asked-colour : test ≡ goodColour k → AskedMark p colourOf 2 (p .players) k (goodColour k) t
-  asked-colour g =
-      record { told = e ∙ ap (λ (b : Bool). toldQuery (not b) p) g; range = colour-range k; made = λ s. sound-tidy p z s .players }
-
-  pub asked-kind : test ≡ goodKind k → AskedMark p kindOf 14 (p .kinds) k (goodKind k) t
-  asked-kind g =
-      record { told = e ∙ ap (λ (b : Bool). toldQuery (not b) p) g; range = kind-range k; made = λ s. sound-tidy p z s .kinds }
-
-module _ (p : Position) (mark : ℕ → ℕ) (count : ℕ) (sets : List Bitboard) (k : ℕ) (good : Bool) (t : Told) (a : AskedMark p mark count sets k good t) where
-  pub mark-refused : (s : Bitboard) → s ≡ emptyS → (t .number ≡ 0 → ⊥) → record { told = t; set = s } ≡ setAnswer (not good) (λ x. eqb (mark x) k) p
-  mark-refused s z h = rw z (set-refused p (not good) t (a .told) (λ x. eqb (mark x) k) h)
-
-  pub mark-range : t .number ≡ 0 → (1 ≤ k) × (k ≤ count)
-  mark-range h = a .range (not-false _ (done-good p _ t (a .told) h))
-
-  pub mark-done : (d : Bitboard) → t .number ≡ 0 → record { told = t; set = getD sets (k - 1) d } ≡ setAnswer (not good) (λ x. eqb (mark x) k) p
-  mark-done d h =
-      let r = mark-range h in
-      let z : 1 + (k - 1) ≡ k = omega arith in
-      set-done p (not good) t (a .told) (λ x. eqb (mark x) k) (getD sets (k - 1) d) h
-      (ap (λ (l : List Bitboard). getD l (k - 1) d) (a .made (done-sound p _ t (a .told) h)) ∙ family-at mark count (p .board) (k - 1) d (omega arith)
-      ∙ ap (λ (i : ℕ). setOf (λ n. eqb (mark (cellAt (p .board) n)) i)) z)
 
 -- ---- the king squares of a sound position
 pub king-squares : (p : Position) → sound p ≡ true → (kingSquare (p .board) 8 ≡ p .bking) × (kingSquare (p .board) 24 ≡ p .wking)
@@ -149,6 +155,14 @@ own-king p c s g = go (ℕ-discrete c 1)
         only-two : (c : ℕ) → 1 ≤ c → c ≤ 2 → (c ≡ 1 → ⊥) → c ≡ 2
         only-two c lo hi d = ⊎-elim (λ (l : c ≤ 1). absurd (d (omega arith))) (λ (l : 1 < c). omega arith) (le-or-lt c 1)
 
+pub hand-range : (c k : ℕ) → goodColour c && goodHandKind k ≡ true → (1 ≤ c) × (c ≤ 2) × (1 ≤ k) × (k ≤ 7)
+unfolding goodHandKind
+hand-range c k g =
+    let b = both (goodColour c) (leb 1 k && leb k 7) g in
+    let r = colour-range c (b .0) in
+    let l = both (leb 1 k) (leb k 7) (b .1) in
+    (r .0, r .1, leb-true 1 k (l .0), leb-true k 7 (l .1))
+
 -- ---- the answers, refused or with their value
 module _ (p : Position) (t : Told) where
   module _ (n : ℕ) (e : t ≡ toldQuery (not (onBoard 9 n)) p) where
@@ -170,12 +184,7 @@ module _ (p : Position) (t : Told) where
     hand-done v h q = rw (done p _ t e h, ← e, q)
 
     pub hand-numbers : t .number ≡ 0 → (1 ≤ c) × (c ≤ 2) × (1 ≤ k) × (k ≤ 7)
-    unfolding goodHandKind
-    hand-numbers h =
-        let b = both (goodColour c) (leb 1 k && leb k 7) (not-false _ (done-good p _ t e h)) in
-        let r = colour-range c (b .0) in
-        let l = both (leb 1 k) (leb k 7) (b .1) in
-        (r .0, r .1, leb-true 1 k (l .0), leb-true k 7 (l .1))
+    hand-numbers h = hand-range c k (not-false _ (done-good p _ t e h))
 
   module _ (c : ℕ) (e : t ≡ toldQuery (not (goodColour c)) p) where
     pub king-refused : (t .number ≡ 0 → ⊥) → record { told = t; king = King.Nothing } ≡ kingAnswer p c
@@ -211,13 +220,3 @@ module _ (p : Position) (t : Told) where
     pub last-done : (v : LastMove) → t .number ≡ 0 → v ≡ lastMove (p .last) → record { told = t; last = v } ≡ lastAnswer p
     unfolding lastAnswer
     last-done v h q = rw (done p _ t e h, ← e, q)
-
--- ---- what the occupied squares' answer says
-module _ (p : Position) (r : SetAnswer) (e : r ≡ occupiedAnswer p) where
-  pub occupied-told : r .told ≡ toldQuery false p
-  unfolding occupiedAnswer setAnswer
-  occupied-told = ap (λ (x : SetAnswer). x .told) e
-
-  pub occupied-value : r .told .number ≡ 0 → r .set ≡ setOf (λ n. not (eqb (cellAt (p .board) n) 0))
-  unfolding occupiedAnswer setAnswer
-  occupied-value h = rw (done p false (r .told) occupied-told h) at (ap (λ (x : SetAnswer). x .set) e)

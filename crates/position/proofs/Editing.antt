@@ -1,94 +1,109 @@
 -- The edits: the answer that goes with each number, the position that an edit makes, and what holds of every edit.
 use mathlib.Core.Path.{_≡_, refl, sym, ap, _∙_}
-use mathlib.Core.Logic.{⊎-elim}
+use mathlib.Core.Logic.{_⊎_, inl, inr}
 use Prim.Native.Nat.{ℕ, zero, suc, _+_, _-_, _≤_, _<_}
-use mathlib.Core.Bool.{Bool, true, false, not, _&&_, cond}
+use mathlib.Core.Bool.{Bool, true, false, not, _&&_, cond, true≢false}
 use mathlib.Core.List.{List}
 use native.Mathlib.Omega.{arith}
 use lib.ListN.{getD, set}
 use lib.Dec.{eqb}
-use borrow.Author.Tests.{ne-eqb, not-false}
+use borrow.Author.Tests.{eq-eqb, ne-eqb, eqb-true, not-false}
 use Rattle.squares.specs.declared.bitboard.Bitboard.{Bitboard}
-use Rattle.squares.specs.Board.{onBoard}
-use Rattle.squares.specs.Kinds.{goodCell}
-use Rattle.squares.specs.Sets.{setOf, andS, has, smallest, firstOf}
-use Rattle.squares.specs.Answers.{popAnswer}
-use Rattle.squares.proofs.Laws.{both, decided, board-range, board-on, has-setOf, pop-square, pop-nothing, smallest-at, smallest-none}
-use Rattle.position.specs.Machine.{Machine, machine, full, cellAt, kingSquare}
-use Rattle.position.specs.Sound.{sound, firstFault}
+use Rattle.squares.specs.Board.{onBoard, fileOf, rankOf}
+use Rattle.squares.specs.declared.marks.Marks.{Marks}
+use Rattle.squares.specs.Bit.{digit}
+use Rattle.squares.specs.Kinds.{goodColour, goodCell, goodPiece, goodKind, colourOf, kindOf}
+use Rattle.squares.specs.Sets.{setOf, andS, has, smallest, firstOf, countOf, allGood}
+use Rattle.squares.specs.Answers.{popAnswer, marksAnswer}
+use Rattle.squares.proofs.Laws.{both, decided, board-range, board-on, has-setOf, pop-square, pop-nothing, smallest-at, smallest-none, all-good, good-all, marks-players, marks-kinds}
+use Rattle.position.specs.Machine.{Machine, machine, full, tab, cellAt, family, kingSquare, emptyPosition, startRanks, startCells, startPosition}
+use Rattle.position.specs.Sound.{goodPly, sound, firstFault}
 use Rattle.position.specs.Answers.{firstFact, toldBy, queryFacts, toldQuery, soundnessTold}
-use Rattle.position.specs.Edits.{editFacts, edited, withCells}
-use Rattle.position.specs.Inner.{AllGood, MarksOf, Tidy, settled}
+use Rattle.position.specs.Edits.{editFacts, edited, withCells, withSide, withPly, sideEdited, plyEdited}
+use Rattle.position.specs.Inner.{AllGood, Tidy, toldAfter, settled}
 use Rattle.position.specs.declared.position.Position.{Position}
-use Rattle.position.specs.declared.sound.Marks.{Marks}
 use Rattle.position.specs.declared.mv.MoveNumbers.{MoveNumbers}
 use Rattle.position.specs.declared.answers.Told.{Told}
 use Rattle.position.specs.declared.answers.Answer.{Answer}
-use Rattle.position.proofs.Asking.{done-good, done-sound}
 use Rattle.position.proofs.Tidiness.{black-kings, white-kings, sound-tidy}
-use Rattle.position.proofs.InOrder.{Sized, sound-full}
+use Rattle.position.proofs.InOrder.{Sized, sound-full, sound-order, order-sound}
 use Rattle.position.proofs.Kept.{store-good}
 use Rattle.position.proofs.Exact.{Given, None, given-first, first-given, none-first, first-none}
 
--- ---- the answer
-module _ (bad : Bool) (p : Position) (m : Machine) (t : Told) (e : t ≡ toldQuery bad p) where
-  -- 2 or 1 refuses: the answer is what the soundness test told
-  pub edit-refuses : (t .number ≡ 0 → ⊥) → record { told = t; position = p } ≡ edited bad p m
-  unfolding edited editFacts toldQuery toldBy queryFacts firstFact
-  edit-refuses d = by bad (not (sound p)) e d
+-- ---- the answer of an edit that makes q of p, where t is told of the numbers and of p
+module _ (bad : Bool) (p : Position) (m : Machine) (t : Told) (e : t ≡ toldQuery bad p) (q : Position) (made : t .number ≡ 0 → q ≡ full m) where
+  -- with what follows asked
+  asked : settled (toldAfter t q) p q ≡ edited bad p m
+  unfolding edited editFacts toldQuery toldBy queryFacts firstFact settled toldAfter
+  asked = by bad (sound p) e
     where
-      by : (a b : Bool) → t ≡ record { number = cond a 2 (cond b 1 0); square = cond (eqb (cond a 2 (cond b 1 0)) 1) (firstFault p) 0 } → (t .number ≡ 0 → ⊥)
-          → _≡_ {A = Answer} (record { told = t; position = p })
+      by : (a s : Bool) → t ≡ record { number = cond a 2 (cond (not s) 1 0); square = cond (eqb (cond a 2 (cond (not s) 1 0)) 1) (firstFault p) 0 }
+          → _≡_ {A = Answer}
+          (record {
+            told = cond (eqb (t .number) 0 && not (sound q)) (record { number = 13; square = 0 }) t;
+            position = cond (eqb (cond {A = Told} (eqb (t .number) 0 && not (sound q)) (record { number = 13; square = 0 }) t .number) 0) q p;
+          })
           (record {
             told = record {
-              number = cond a 2 (cond b 1 (cond (not (sound (full m))) 13 0));
-              square = cond (eqb (cond a 2 (cond b 1 (cond (not (sound (full m))) 13 0))) 1) (firstFault p) 0;
+              number = cond a 2 (cond (not s) 1 (cond (not (sound (full m))) 13 0));
+              square = cond (eqb (cond a 2 (cond (not s) 1 (cond (not (sound (full m))) 13 0))) 1) (firstFault p) 0;
             };
-            position = cond (eqb (cond a 2 (cond b 1 (cond (not (sound (full m))) 13 0))) 0) (full m) p;
+            position = cond (eqb (cond a 2 (cond (not s) 1 (cond (not (sound (full m))) 13 0))) 0) (full m) p;
           })
-      by true b e d = rw e
-      by false true e d = rw e
-      by false false e d = absurd (d (ap (λ (x : Told). x .number) e))
+      by true s e = rw e
+      by false false e = rw e
+      by false true e = rw (e, made (ap (λ (x : Told). x .number) e)) (last (sound (full m)))
+        where
+          last : (b : Bool)
+              → _≡_ {A = Answer}
+              (record {
+                told = cond (not b) (record { number = 13; square = 0 }) (record { number = 0; square = 0 });
+                position = cond (eqb (cond {A = Told} (not b) (record { number = 13; square = 0 }) (record { number = 0; square = 0 }) .number) 0) (full m) p;
+              })
+              (record {
+                told = record { number = cond (not b) 13 0; square = cond (eqb (cond (not b) 13 0) 1) (firstFault p) 0 };
+                position = cond (eqb (cond (not b) 13 0) 0) (full m) p;
+              })
+          last true = refl
+          last false = refl
 
-  -- neither does
-  pub edit-settles : (q : Position) → t .number ≡ 0 → q ≡ full m → settled p q ≡ edited bad p m
-  unfolding edited editFacts toldBy firstFact settled
-  edit-settles q z f = rw (done-good p bad t e z, done-sound p bad t e z, f) (by (sound (full m)))
+  pub edit-asked : (r : Told) → r ≡ toldAfter t q → settled r p q ≡ edited bad p m
+  edit-asked r f = ap (λ (x : Told). settled x p q) f ∙ asked
+
+  -- what follows is sound: no need to ask
+  pub edit-sure : (t .number ≡ 0 → sound (full m) ≡ true) → settled t p q ≡ edited bad p m
+  unfolding toldAfter
+  edit-sure sure = edit-asked t (never (decided (eqb (t .number) 0)))
     where
-      by : (b : Bool)
-          → _≡_ {A = Answer} (record { told = record { number = cond b 0 13; square = 0 }; position = cond b (full m) p })
-          (record {
-            told = record { number = cond (not b) 13 0; square = cond (eqb (cond (not b) 13 0) 1) (firstFault p) 0 };
-            position = cond (eqb (cond (not b) 13 0) 0) (full m) p;
-          })
-      by true = refl
-      by false = refl
+      never : (eqb (t .number) 0 ≡ true) ⊎ (eqb (t .number) 0 ≡ false) → t ≡ cond (eqb (t .number) 0 && not (sound q)) (record { number = 13; square = 0 }) t
+      never (inl z) = let n = eqb-true (t .number) 0 z in rw (z, made n, sure n)
+      never (inr z) = rw z
 
 -- ---- what would follow, asked
-module _ (p q : Position) (t : Told) (e : t ≡ soundnessTold q) where
-  found-is : t .number ≡ cond (not (sound q)) 1 0
+pub after-refused : (t : Told) (q : Position) → (t .number ≡ 0 → ⊥) → t ≡ toldAfter t q
+unfolding toldAfter
+after-refused t q d = rw (ne-eqb (t .number) 0 d)
+
+module _ (t f : Told) (q : Position) (e : f ≡ soundnessTold q) where
+  found-is : f .number ≡ cond (not (sound q)) 1 0
   unfolding soundnessTold toldQuery toldBy queryFacts firstFact
   found-is = ap (λ (x : Told). x .number) e
 
-  pub settle-refuses : (t .number ≡ 0 → ⊥) → record { told = record { number = 13; square = 0 }; position = p } ≡ settled p q
-  unfolding settled
-  settle-refuses d = by (sound q) found-is
+  pub after-unsound : t .number ≡ 0 → (f .number ≡ 0 → ⊥) → record { number = 13; square = 0 } ≡ toldAfter t q
+  unfolding toldAfter
+  after-unsound z d = rw (eq-eqb (t .number) 0 z) (by (sound q) found-is)
     where
-      by : (b : Bool) → t .number ≡ cond (not b) 1 0
-          → _≡_ {A = Answer} (record { told = record { number = 13; square = 0 }; position = p })
-          (record { told = record { number = cond b 0 13; square = 0 }; position = cond b q p })
-      by true f = absurd (d f)
-      by false f = refl
+      by : (b : Bool) → f .number ≡ cond (not b) 1 0 → record { number = 13; square = 0 } ≡ cond (not b) (record { number = 13; square = 0 }) t
+      by true g = absurd (d g)
+      by false g = refl
 
-  pub settle-passes : t .number ≡ 0 → record { told = record { number = 0; square = 0 }; position = q } ≡ settled p q
-  unfolding settled
-  settle-passes z = by (sound q) found-is
+  pub after-sound : t .number ≡ 0 → f .number ≡ 0 → t ≡ toldAfter t q
+  unfolding toldAfter
+  after-sound z g = rw (eq-eqb (t .number) 0 z) (by (sound q) found-is)
     where
-      by : (b : Bool) → t .number ≡ cond (not b) 1 0
-          → _≡_ {A = Answer} (record { told = record { number = 0; square = 0 }; position = q })
-          (record { told = record { number = cond b 0 13; square = 0 }; position = cond b q p })
-      by true f = refl
-      by false f = absurd (omega arith)
+      by : (b : Bool) → f .number ≡ cond (not b) 1 0 → t ≡ cond (not b) (record { number = 13; square = 0 }) t
+      by true h = refl
+      by false h = absurd (omega arith)
 
 -- ---- a sound position with other hands, side or ply
 abbrev with-others : Position → List ℕ → ℕ → MoveNumbers → ℕ → Position
@@ -129,9 +144,12 @@ first-king cells king =
     first-cong (has (setOf (λ n. eqb (cellAt cells n) king))) (λ n. eqb (cellAt cells n) king) 1 81 (λ n a b.
     has-setOf (λ m. eqb (cellAt cells m) king) n ∙ ap (λ (t : Bool). t && eqb (cellAt cells n) king) (board-on 9 n a (omega arith)))
 
-module _ (p : Position) (cells : List ℕ) (good : AllGood cells) (r : Marks) (of : MarksOf cells r) where
-  fine : r .bad ≡ false
-  fine = ⊎-elim (λ (t : r .bad ≡ true). absurd (of .bad t good)) (λ (f : r .bad ≡ false). f) (decided (r .bad))
+module _ (p : Position) (cells : List ℕ) (good : AllGood cells) (r : Marks) (of : r ≡ marksAnswer cells) where
+  players-are : r .players ≡ family colourOf 2 cells
+  players-are = marks-players cells r of (good-all cells good)
+
+  kinds-are : r .kinds ≡ family kindOf 14 cells
+  kinds-are = marks-kinds cells r of (good-all cells good)
 
   abbrev made : Position
   made =
@@ -148,7 +166,7 @@ module _ (p : Position) (cells : List ℕ) (good : AllGood cells) (r : Marks) (o
       }
 
   made-tidy : Tidy made
-  made-tidy = record { cells = good; players = of .players fine; kinds = of .kinds fine }
+  made-tidy = record { cells = good; players = players-are; kinds = kinds-are }
 
   pub made-full : (d e f g : Bitboard) (b w : ℕ) → b ≡ smallest (andS (getD (r .players) 0 d) (getD (r .kinds) 7 e))
       → w ≡ smallest (andS (getD (r .players) 1 f) (getD (r .kinds) 7 g))
@@ -169,22 +187,62 @@ module _ (p : Position) (cells : List ℕ) (good : AllGood cells) (r : Marks) (o
       rw (
         black ∙ ap smallest (black-kings made made-tidy d e) ∙ first-king cells 8,
         white ∙ ap smallest (white-kings made made-tidy f g) ∙ first-king cells 24,
-        of .players fine,
-        of .kinds fine,
+        players-are,
+        kinds-are,
       )
+
+-- the start position from its cells
+pub start-good : AllGood startCells
+unfolding allGood countOf digit goodCell goodPiece goodKind kindOf startCells startRanks tab fileOf rankOf
+start-good = all-good startCells refl
+
+pub start-made : full (withCells (machine emptyPosition) startCells) ≡ startPosition
+unfolding withCells machine emptyPosition full startPosition
+start-made = refl
 
 -- one cell changed, and good numbers
 pub cell-good : (p : Position) → Sized p → sound p ≡ true → (n c : ℕ) → not (onBoard 9 n && goodCell c) ≡ false
-    → (1 ≤ n) × (n ≤ 81) × AllGood (set (p .board) (n - 1) c)
+    → (onBoard 9 n ≡ true) × AllGood (set (p .board) (n - 1) c)
 cell-good p s h n c g =
     let b = both (onBoard 9 n) (goodCell c) (not-false _ g) in
     let r = board-range 9 n (b .0) in
     let t = sound-tidy p s h in (
-      r .0,
-      r .1,
+      b .0,
       λ k lo hi.
           store-good (p .board) n c (r .0) (omega (arith, r .1, s .board)) (b .1) (λ m o. let q = board-range 9 m o in t .cells m (q .0) (q .1)) k (board-on 9 k lo hi),
     )
+
+-- ---- another side, another ply: a sound position stays sound, and 13 is never given
+module _ (p : Position) (s : Sized p) (h : sound p ≡ true) where
+  pub side-sound : (c : ℕ) → goodColour c ≡ true → sound (full (withSide (machine p) c)) ≡ true
+  unfolding withSide
+  side-sound c g =
+      let o = sound-order p s h in
+      order-sound (withSide (machine p) c) (record { cells = o .cells; black = o .black; white = o .white; counts = o .counts; side = g; ply = o .ply; last = o .last })
+
+  pub ply-sound : (n : ℕ) → goodPly n ≡ true → sound (full (withPly (machine p) n)) ≡ true
+  unfolding withPly
+  ply-sound n g =
+      let o = sound-order p s h in
+      order-sound (withPly (machine p) n) (record { cells = o .cells; black = o .black; white = o .white; counts = o .counts; side = o .side; ply = g; last = o .last })
+
+never-unsound : (bad : Bool) (p : Position) (m : Machine) → (bad ≡ false → sound p ≡ true → sound (full m) ≡ true) → edited bad p m .told .number ≡ 13 → ⊥
+unfolding edited editFacts toldBy firstFact
+never-unsound bad p m sure = by bad (sound p) (sound (full m)) sure
+  where
+    by : (a b c : Bool) → (a ≡ false → b ≡ true → c ≡ true) → _≡_ {A = ℕ} (cond a 2 (cond (not b) 1 (cond (not c) 13 0))) 13 → ⊥
+    by true b c f z = absurd (omega arith)
+    by false false c f z = absurd (omega arith)
+    by false true true f z = absurd (omega arith)
+    by false true false f z = true≢false (sym (f refl refl))
+
+pub side-never-13 : (p : Position) → Sized p → (c : ℕ) → sideEdited p c .told .number ≡ 13 → ⊥
+unfolding sideEdited
+side-never-13 p s c = never-unsound (not (goodColour c)) p (withSide (machine p) c) (λ g h. side-sound p s h c (not-false _ g))
+
+pub ply-never-13 : (p : Position) → Sized p → (n : ℕ) → plyEdited p n .told .number ≡ 13 → ⊥
+unfolding plyEdited
+ply-never-13 p s n = never-unsound (not (goodPly n)) p (withPly (machine p) n) (λ g h. ply-sound p s h n (not-false _ g))
 
 -- ---- what holds of every edit: its number is given exactly when its fact holds and no earlier one does
 module _ (bad : Bool) (p : Position) (m : Machine) where
@@ -214,9 +272,9 @@ module _ (bad : Bool) (p : Position) (m : Machine) where
   unfolding edited toldBy
   edit-makes e = rw e
 
-  after-sound : firstFact (editFacts bad p m) ≡ 0 → sound (full m) ≡ true
+  made-sound : firstFact (editFacts bad p m) ≡ 0 → sound (full m) ≡ true
   unfolding editFacts firstFact
-  after-sound = by bad (sound p) (sound (full m))
+  made-sound = by bad (sound p) (sound (full m))
     where
       by : (a b s : Bool) → _≡_ {A = ℕ} (cond a 2 (cond (not b) 1 (cond (not s) 13 0))) 0 → s ≡ true
       by true b s z = absurd (omega arith)
@@ -226,4 +284,4 @@ module _ (bad : Bool) (p : Position) (m : Machine) where
 
   pub edit-sound : edited bad p m .told .number ≡ 0 → sound (edited bad p m .position) ≡ true
   unfolding edited toldBy
-  edit-sound e = rw e (after-sound e)
+  edit-sound e = rw e (made-sound e)

@@ -1,19 +1,20 @@
--- The faults that are no cell's: kings, counts, the last move.
+-- The faults that are no cell's: kings, counts, the ply, the last move.
 use mathlib.Core.Path.{_≡_, refl, sym, ap, _∙_}
 use Prim.Native.Nat.{ℕ, zero, suc, _+_, _-_, _≤_, _<_}
-use mathlib.Core.Bool.{Bool, true, false, _&&_, not, or-false}
+use mathlib.Core.Bool.{Bool, true, false, _&&_, not, or-false, and-true}
 use mathlib.Core.List.{List}
 use native.Mathlib.Omega.{arith}
 use lib.ListN.{getD}
 use lib.Dec.{eqb, leb}
-use borrow.Author.Tests.{eq-eqb, ne-eqb, le-leb, lt-leb}
+use lib.Arith.{lt-of-le-ne}
+use borrow.Author.Tests.{eq-eqb, ne-eqb, le-leb, lt-leb, leb-true}
 use Rattle.squares.specs.declared.bitboard.Bitboard.{Bitboard}
 use Rattle.squares.specs.Board.{onBoard}
 use Rattle.squares.specs.Kinds.{kindRow, goodPiece}
 use Rattle.squares.specs.Sets.{size, isEmpty, smallest}
 use Rattle.squares.specs.Answers.{promotedAnswer, popAnswer}
-use Rattle.squares.proofs.Laws.{eqb-same, promoted-small, promoted-value, promoted-some, empty-size, pop-square, pop-nothing, smallest-at, smallest-none, size-none}
-use Rattle.position.specs.Sound.{goodLast}
+use Rattle.squares.proofs.Laws.{both, eqb-same, promoted-small, promoted-value, promoted-some, empty-size, pop-square, pop-nothing, smallest-at, smallest-none, size-none}
+use Rattle.position.specs.Sound.{topPly, goodPly, goodLast}
 use Rattle.position.specs.Inner.{kingOff, promotedAt, setsSize, overBySets}
 use Rattle.position.specs.declared.mv.MoveNumbers.{MoveNumbers}
 
@@ -34,6 +35,23 @@ module _ (l : MoveNumbers) where
   pub last-bad : (l .tag ≡ 0 → ⊥) → (l .tag ≡ 1 → ⊥) → (l .tag ≡ 2 → ⊥) → false ≡ goodLast l
   unfolding goodLast
   last-bad a b c = rw (ne-eqb (l .tag) 0 a, ne-eqb (l .tag) 1 b, ne-eqb (l .tag) 2 c)
+
+-- ---- the ply
+pub ply-range : (n : ℕ) → goodPly n ≡ true → (1 ≤ n) × (n ≤ topPly)
+unfolding goodPly
+ply-range n h = let b = both (leb 1 n) (leb n topPly) h in (leb-true 1 n (b .0), leb-true n topPly (b .1))
+
+pub ply-good : (n : ℕ) → 1 ≤ n → n ≤ topPly → goodPly n ≡ true
+unfolding goodPly
+ply-good n l h = rw (le-leb 1 n l, le-leb n topPly h)
+
+-- the place of a ply has room for no number above the last
+pub ply-place : (n : ℕ) → n < 65536 → leb 1 n ≡ goodPly n
+unfolding goodPly topPly
+ply-place n h = rw (le-leb n 65535 (omega arith)) (sym (and-true (leb 1 n)))
+
+pub ply-next : (n : ℕ) → goodPly n ≡ true → (n ≡ topPly → ⊥) → goodPly (n + 1) ≡ true
+ply-next n h d = let below : n < topPly = lt-of-le-ne (ply-range n h .1) d in ply-good (n + 1) (omega arith) (omega arith)
 
 -- ---- a king's set, popped
 one-more : (m : ℕ) → leb (m + 1) 1 ≡ eqb m 0

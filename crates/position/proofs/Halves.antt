@@ -13,7 +13,7 @@ use Rattle.squares.specs.Board.{onBoard}
 use Rattle.squares.specs.Kinds.{kindRow, kinds, handKind, goodPiece, kindOf}
 use Rattle.squares.proofs.Laws.{both, le-or-lt, colour-range, limit-small, held-small}
 use Rattle.position.specs.Machine.{machine, cellAt}
-use Rattle.position.specs.Sound.{sound}
+use Rattle.position.specs.Sound.{topPly, sound}
 use Rattle.position.specs.Answers.{firstFact, stood}
 use Rattle.position.specs.Moves.{badMove, normalFacts, ruleFacts, held}
 use Rattle.position.specs.Plans.{RoomFor, Holds, normalPlan, dropPlan, Playable}
@@ -23,6 +23,7 @@ use Rattle.position.specs.declared.mv.Move.the-variants.{Normal, Drop}
 use Rattle.position.specs.declared.answers.Stands.the-variants.{Nothing, Piece}
 use Rattle.position.proofs.InOrder.{Sized, sound-order}
 use Rattle.position.proofs.Pieces.{positive}
+use Rattle.position.proofs.Elsewhere.{ply-range}
 use Rattle.position.proofs.Tallies.{hand-in}
 use Rattle.position.proofs.Ladder.{CanMove, CanDrop, on-board}
 
@@ -88,17 +89,17 @@ module _ (p : Position) (s : Sized p) (h : sound p ≡ true) where
         few = λ d. omega (arith, few-hands _ (hand-in (p .side) (handKind (kindOf t)) (sound-side .0) (sound-side .1) (positive _ d) (held-small (kindOf t))));
       }
 
-  module _ (fits : p .ply < 65536) where
-    early : (p .ply ≡ 65535 → ⊥) → p .ply < 65535
-    early d = lt-of-le-ne (omega arith) d
+  early : (p .ply ≡ topPly → ⊥) → p .ply < topPly
+  unfolding machine
+  early d = lt-of-le-ne (ply-range (p .ply) (sound-order p s h .ply) .1) d
 
-    pub normal-fits : (from to : ℕ) (promote : Bool) (c t : ℕ) (hands : List ℕ) → CanMove (machine p) from to promote → Playable p (normalPlan from to promote c t hands)
-    unfolding machine normalPlan
-    normal-fits from to promote c t hands k = record { at-from = k .start; at-to = k .goal; side = λ z. sound-side .1; ply = λ z. early (k .early) }
+  pub normal-fits : (from to : ℕ) (promote : Bool) (c t : ℕ) (hands : List ℕ) → CanMove (machine p) from to promote → Playable p (normalPlan from to promote c t hands)
+  unfolding machine normalPlan
+  normal-fits from to promote c t hands k = record { at-from = k .start; at-to = k .goal; side = λ z. sound-side .1; ply = λ z. early (k .early) }
 
-    pub drop-fits : (piece to c : ℕ) (hands : List ℕ) → CanDrop (machine p) piece to → Playable p (dropPlan piece to c hands)
-    unfolding machine dropPlan
-    drop-fits piece to c hands k = record { at-from = k .goal; at-to = k .goal; side = λ z. sound-side .1; ply = λ z. early (k .early) }
+  pub drop-fits : (piece to c : ℕ) (hands : List ℕ) → CanDrop (machine p) piece to → Playable p (dropPlan piece to c hands)
+  unfolding machine dropPlan
+  drop-fits piece to c hands k = record { at-from = k .goal; at-to = k .goal; side = λ z. sound-side .1; ply = λ z. early (k .early) }
 
   pub drop-held : (piece to : ℕ) → CanDrop (machine p) piece to → Holds (p .hands) (p .side) piece
   unfolding machine

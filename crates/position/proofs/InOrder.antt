@@ -4,13 +4,13 @@ use Prim.Native.Nat.{ℕ, _+_, _≤_, _<_}
 use mathlib.Core.Bool.{true, false, not}
 use lib.ListN.{getD}
 use lib.Dec.{eqb}
-use borrow.Author.Tests.{eqb-false, ne-eqb, ltb-false, le-ltb, not-false, not-true}
+use borrow.Author.Tests.{ltb-false, le-ltb, not-false, not-true}
 use Rattle.squares.specs.Board.{onBoard}
 use Rattle.squares.specs.Kinds.{kindRow, goodColour, goodCell}
 use Rattle.squares.proofs.Laws.{both, board-range, board-on}
 use Rattle.position.specs.Machine.{Machine, machine, full, cellAt, kingSquare}
 pub use Rattle.position.specs.Machine.{Sized}
-use Rattle.position.specs.Sound.{anyBelow, strayIn, standing, overLimit, goodLast, firstFault, faultElsewhere, sound}
+use Rattle.position.specs.Sound.{anyBelow, strayIn, standing, overLimit, goodPly, goodLast, firstFault, faultElsewhere, sound}
 use Rattle.position.specs.Inner.{Tidy}
 use Rattle.position.specs.declared.position.Position.{Position}
 use Rattle.position.proofs.Agree.{or-false-both, any-each, any-all}
@@ -25,7 +25,7 @@ pub record InOrder (m : Machine) : Type 0 where
   pub counts : (j : ℕ) → j < 7
       → standing (m .cells) (j + 1) + (getD (m .hands) j 0 + getD (m .hands) (j + 7) 0) ≤ kindRow (j + 1) .limit
   pub side : goodColour (m .side) ≡ true
-  pub ply : m .ply ≡ 0 → ⊥
+  pub ply : goodPly (m .ply) ≡ true
   pub last : goodLast (m .last) ≡ true
 
 -- what no fault elsewhere says
@@ -34,7 +34,7 @@ record NoFault (p : Position) : Type 0 where
   white : KingIs (p .board) 24 (p .wking)
   counts : anyBelow (overLimit p) 7 ≡ false
   side : goodColour (p .side) ≡ true
-  ply : eqb (p .ply) 0 ≡ false
+  ply : goodPly (p .ply) ≡ true
   last : goodLast (p .last) ≡ true
 
 no-faults : (p : Position) → sound p ≡ true → NoFault p
@@ -52,7 +52,7 @@ no-faults p h =
       white = king-is (p .board) 24 (p .wking) (f .0);
       counts = g .0;
       side = not-false _ (i .0);
-      ply = j .0;
+      ply = not-false _ (j .0);
       last = not-false _ (j .1);
     }
 
@@ -77,7 +77,7 @@ module _ (p : Position) (s : Sized p) (h : sound p ≡ true) where
         white = rw (king-square (p .board) 24 (p .wking) (k .white)) (k .white);
         counts = λ j small. ltb-false _ _ (any-each (overLimit p) 7 j (k .counts) small);
         side = k .side;
-        ply = eqb-false (p .ply) 0 (k .ply);
+        ply = k .ply;
         last = k .last;
       }
 
@@ -103,6 +103,6 @@ module _ (m : Machine) (g : InOrder m) where
         king-right (m .cells) 24 _ (g .white),
         any-all (overLimit (full m)) 7 few,
         g .side,
-        ne-eqb (m .ply) 0 (g .ply),
+        g .ply,
         g .last,
       )

@@ -23,6 +23,7 @@ use Rattle.position.proofs.InOrder.{InOrder, Sized, sound-full, sound-o
 use Rattle.position.proofs.Pieces.{Lands, arriving-lands, cell-held, plain-kind}
 use Rattle.position.proofs.Carrying.{carried, carry-full}
 use Rattle.position.proofs.Tallies.{standing-store, empty-none, held-sum, spent-sum}
+use Rattle.position.proofs.Elsewhere.{ply-next}
 use Rattle.position.proofs.Ladder.{CanMove, CanDrop}
 
 -- the king stands where the first of its squares is
@@ -97,7 +98,7 @@ module _ (m : Machine) (from to : ℕ) (promote : Bool) (g : InOrder m) (size : 
               itself _ 24 _ (king-moves (m .cells) 24 _ from to v size (eqb-false 24 0 refl) (k .start .low) (k .start .high) (k .goal .low) (k .goal .high) (g .white) (lands .white));
           counts = normal-counts;
           side = other-good (m .side) (g .side);
-          ply = λ z. omega arith;
+          ply = ply-next (m .ply) (g .ply) (k .early);
           last = rw (f-on, t-on, flag-small promote);
         }
 
@@ -139,7 +140,7 @@ module _ (m : Machine) (piece to : ℕ) (g : InOrder m) (size : length (m .cells
               (λ z. absurd (no-king 24 (white-kind 24 (omega arith)) z))));
           counts = drop-counts;
           side = other-good (m .side) (g .side);
-          ply = λ z. omega arith;
+          ply = ply-next (m .ply) (g .ply) (k .early);
           last = rw (k .good, board-on 9 to (k .goal .low) (k .goal .high));
         }
 

@@ -12,7 +12,7 @@ use Rattle.squares.specs.Board.{onBoard}
 use Rattle.squares.specs.Kinds.{goodPiece, colourOf, kindOf, promotedPiece}
 use Rattle.squares.proofs.Laws.{both, board-range, piece-kind}
 use Rattle.position.specs.Machine.{Machine, machine, full, cellAt}
-use Rattle.position.specs.Sound.{sound, firstFault}
+use Rattle.position.specs.Sound.{topPly, sound, firstFault}
 use Rattle.position.specs.Answers.{Fact, firstFact, toldBy, queryFacts, toldQuery, handAt}
 use Rattle.position.specs.Moves.{badMove, normalFacts, dropFacts, ruleFacts, moveFacts, next, movePlayed}
 use Rattle.position.specs.Plans.{Ready}
@@ -34,7 +34,7 @@ pub record CanMove (m : Machine) (from to : ℕ) (promote : Bool) : Type 0 where
   pub form : promote && eqb (promotedPiece (cellAt (m .cells) from)) 0 ≡ false
   pub other : colourOf (cellAt (m .cells) to) ≡ m .side → ⊥
   pub no-king : kindOf (cellAt (m .cells) to) ≡ 8 → ⊥
-  pub early : m .ply ≡ 65535 → ⊥
+  pub early : m .ply ≡ topPly → ⊥
 
 pub record CanDrop (m : Machine) (piece to : ℕ) : Type 0 where
   pub good : goodPiece piece ≡ true
@@ -44,7 +44,7 @@ pub record CanDrop (m : Machine) (piece to : ℕ) : Type 0 where
   pub kind-high : kindOf piece ≤ 7
   pub empty : cellAt (m .cells) to ≡ 0
   pub some : 1 ≤ getD (m .hands) (handAt (m .side) (kindOf piece)) 0
-  pub early : m .ply ≡ 65535 → ⊥
+  pub early : m .ply ≡ topPly → ⊥
 
 none-of : (b : Bool) (n r : ℕ) → (n ≡ 0 → ⊥) → cond b n r ≡ 0 → (b ≡ false) × (r ≡ 0)
 none-of true n r d h = absurd (d h)

@@ -7,4 +7,4 @@ pub use Rattle.position.proofs.Ladder.{CanMove, CanDrop, normal-passes,
 pub use Rattle.position.proofs.Exact.{Given, None, given-first, first-given, none-first, first-none}
 pub use Rattle.position.proofs.Theorems.{one-answer, number-given, given-number, none-done, done-none, refused-keeps, done-plays, recorded}
 pub use Rattle.position.proofs.Theorems.{plays-plain, stays-sound, stays-sized, game-plain, empty-sound, start-sound}
-pub use Rattle.position.proofs.Editing.{edit-given, given-edit, none-edit, edit-none, edit-keeps, edit-makes, edit-sound}
+pub use Rattle.position.proofs.Editing.{edit-given, given-edit, none-edit, edit-none, edit-keeps, edit-makes, edit-sound, side-never-13, ply-never-13}

@@ -1,5 +1,4 @@
 -- Crates above cite Laws alone.
-mod Marking
 mod Agree
 mod Sizes
 mod Reading

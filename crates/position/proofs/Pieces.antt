@@ -7,7 +7,7 @@ use native.Mathlib.Omega.{arith}
 use lib.Dec.{eqb, leb}
 use borrow.Author.Tests.{eqb-true, eqb-false, ne-eqb, leb-true, lt-leb, not-false, not-true}
 use Rattle.squares.specs.Kinds.{kindRow, kinds, goodKind, handKind, pieceOf, colourOf, kindOf, goodPiece, goodCell, promotedPiece}
-use Rattle.squares.proofs.Laws.{both, piece-small, decided}
+use Rattle.squares.proofs.Laws.{both, le-or-lt, black-colour, white-colour, piece-small, decided}
 use Rattle.position.specs.Sound.{anyBelow}
 use Rattle.position.specs.Moves.{arriving}
 use Rattle.position.proofs.Agree.{any-each}
@@ -16,7 +16,13 @@ pub positive : (n : ℕ) → (n ≡ 0 → ⊥) → 1 ≤ n
 positive zero d = absurd (d refl)
 positive (suc n) d = omega arith
 
-pub or-right : (a b : Bool) → a ≡ false → a || b ≡ true → b ≡ true
+-- a cell that is not empty has a colour
+pub colour-in : (x : ℕ) → (x ≡ 0 → ⊥) → (1 ≤ colourOf x) × (colourOf x ≤ 2)
+colour-in x d =
+    ⊎-elim (λ (h : x ≤ 16). let e = black-colour x (positive x d) h in (omega arith, omega arith))
+    (λ (h : 16 < x). let e = white-colour x h in (omega arith, omega arith)) (le-or-lt x 16)
+
+or-right : (a b : Bool) → a ≡ false → a || b ≡ true → b ≡ true
 or-right true b e h = absurd (true≢false e)
 or-right false b e h = h
 

@@ -12,7 +12,7 @@ use borrow.Author.Tests.{eq-eqb, ne-eqb, eqb-false, le-leb}
 use Rattle.squares.specs.declared.bitboard.Bitboard.{Bitboard}
 use Rattle.squares.specs.Kinds.{colourOf, kindOf, goodKind, goodPiece}
 use Rattle.squares.specs.Sets.{singleS, xorS}
-use Rattle.squares.proofs.Laws.{le-or-lt, empty-colour, black-colour, white-colour, black-kind, piece-kind}
+use Rattle.squares.proofs.Laws.{le-or-lt, empty-colour, black-kind, piece-kind}
 use Rattle.position.specs.Machine.{cellAt}
 use Rattle.position.specs.Moves.{arriving, numbersOf, movePlayed}
 use Rattle.position.specs.Inner.{OnBoard}
@@ -23,7 +23,7 @@ use Rattle.position.specs.declared.answers.Answer.{Answer}
 use Rattle.position.specs.declared.mv.Move.{Move}
 use Rattle.position.specs.declared.mv.Move.the-variants.{Normal, Drop}
 use Rattle.position.proofs.Stores.{setsAfter, cell-same, cell-other, toggle-in, toggle-low, toggle-high}
-use Rattle.position.proofs.Pieces.{positive}
+use Rattle.position.proofs.Pieces.{positive, colour-in}
 use Rattle.position.proofs.Carrying.{carried}
 
 -- ---- a plan that does nothing
@@ -85,11 +85,6 @@ module _ (p : Position) (size : length (p .board) ≡ 81) where
   drop-plays piece to hands t = rw (cell-same (p .board) to 0 (t .low) (omega (arith, t .high)))
 
 -- ---- as the code turns a square: the colour set first, then the kind set
-pub colour-in : (x : ℕ) → (x ≡ 0 → ⊥) → (1 ≤ colourOf x) × (colourOf x ≤ 2)
-colour-in x d =
-    ⊎-elim (λ (h : x ≤ 16). let e = black-colour x (positive x d) h in (omega arith, omega arith))
-    (λ (h : 16 < x). let e = white-colour x h in (omega arith, omega arith)) (le-or-lt x 16)
-
 kind-piece : (x : ℕ) → 1 ≤ kindOf x → kindOf x ≤ 14 → goodPiece x ≡ true
 unfolding goodPiece goodKind
 kind-piece x l u = rw (le-leb 1 (kindOf x) l, le-leb (kindOf x) 14 u)

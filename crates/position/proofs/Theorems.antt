@@ -14,7 +14,7 @@ use Rattle.squares.specs.Kinds.{kindRow, kinds, goodColour, goodCell, goodPiece
 use Rattle.squares.specs.Sets.{countOf}
 use Rattle.squares.proofs.Laws.{board-range, decided}
 use Rattle.position.specs.Machine.{Machine, machine, full, tab, cellAt, noMove, emptyPosition, startRanks, startCells, startPosition}
-use Rattle.position.specs.Sound.{sound, anyBelow, kingWrong, standing, goodLast}
+use Rattle.position.specs.Sound.{sound, anyBelow, kingWrong, standing, topPly, goodPly, goodLast}
 use Rattle.position.specs.Answers.{firstFact, toldBy, lastMove}
 use Rattle.position.specs.Moves.{badMove, normalFacts, dropFacts, ruleFacts, moveFacts, held, spent, moved, dropped, next, numbersOf, movePlayed}
 use Rattle.position.specs.Games.{playedGame, plainNumber, plainNext, plainAnswer, plainGame}
@@ -209,7 +209,7 @@ few-pieces m h j small =
 module _ (cells : List ℕ) (b w : ℕ) (good : anyBelow (λ j. not (goodCell (cellAt cells (j + 1)))) 81 ≡ false) (black : kingWrong cells 8 b ≡ false) (white : kingWrong cells 24 w ≡ false)
     (few : anyBelow (λ j. ltb (kindRow (j + 1) .limit) (standing cells (j + 1) + (getD (replicate 14 0) j 0 + getD (replicate 14 0) (j + 7) 0))) 7 ≡ false) where
   fresh-sound : sound (full (record { cells = cells; hands = replicate 14 0; side = 1; last = noMove; ply = 1 })) ≡ true
-  unfolding goodColour goodLast
+  unfolding goodColour goodPly topPly goodLast
   fresh-sound =
       order-sound (record { cells = cells; hands = replicate 14 0; side = 1; last = noMove; ply = 1 })
       (record {
@@ -218,7 +218,7 @@ module _ (cells : List ℕ) (b w : ℕ) (good : anyBelow (λ j. not (goodCell (c
         white = itself cells 24 w (king-is cells 24 w white);
         counts = few-pieces (record { cells = cells; hands = replicate 14 0; side = 1; last = noMove; ply = 1 }) few;
         side = refl;
-        ply = eqb-false 1 0 refl;
+        ply = refl;
         last = refl;
       })
 

@@ -11,17 +11,18 @@ use lib.ListN.{length, getD}
 use lib.Dec.{eqb, leb, ltb, ltb→lt}
 use borrow.Author.Tests.{eq-eqb, ne-eqb, eqb-true, le-leb, lt-leb, leb-true, le-ltb, lt-ltb, not-true, not-false}
 use Rattle.squares.specs.declared.bitboard.Bitboard.{Bitboard}
+use Rattle.squares.specs.declared.marks.Marks.{Marks}
+use Rattle.squares.specs.Answers.{marksAnswer}
 use Rattle.squares.specs.Board.{onBoard}
 use Rattle.squares.specs.Kinds.{kinds, kindRow, goodKind, goodPiece, goodCell, goodColour, colourOf, kindOf}
-use Rattle.squares.specs.Sets.{has, setOf, clean, emptyS, andS, orS, size, smallest, withoutS}
+use Rattle.squares.specs.Sets.{has, setOf, clean, emptyS, andS, orS, size, smallest, withoutS, allGood}
 use Rattle.squares.proofs.Laws.{both, decided, all-at, allFrom, rows-truth, le-or-lt, board-on, board-range, has-setOf, setOf-cong, clean-setOf, clean-has, and-rules, or-rules, First, smallest-is, smallest-at, smallest-none, size-without, size-none, has-withoutS, has-off, size-rule, count-same, cell-piece, piece-kind, black-kind, piece-by}
 use Rattle.position.specs.Machine.{Sized, cellAt, family}
-use Rattle.position.specs.Sound.{anyBelow, disagrees, faultyAt, readingAt, firstFault, strayIn, kingWrong, standing, overLimit, goodLast, faultElsewhere, sound}
-use Rattle.position.specs.Inner.{MarksOf, Compared, Tidy, TidyTold, kingOff, promotedAt, setsSize, overBySets}
+use Rattle.position.specs.Sound.{anyBelow, disagrees, faultyAt, readingAt, firstFault, strayIn, kingWrong, standing, overLimit, goodPly, goodLast, faultElsewhere, sound}
+use Rattle.position.specs.Inner.{AllClean, Compared, Tidy, TidyTold, kingOff, promotedAt, setsSize, overBySets}
 use Rattle.position.specs.Answers.{firstFact, toldBy, queryFacts, toldQuery, soundnessTold}
-use Rattle.position.specs.declared.sound.Marks.{Marks}
 use Rattle.position.specs.declared.position.Position.{Position}
-use Rattle.squares.proofs.Laws.{length-tab, getD-tab, is-tab}
+use Rattle.squares.proofs.Laws.{length-tab, is-tab, family-at, family-clean, all-good, good-all, marks-told, marks-refused, marks-players, marks-kinds}
 use Rattle.position.proofs.Agree.{any-all, any-each, any-same, or-false-both, beq-false, beq-same}
 use Rattle.position.proofs.Kings.{KingIs, king-is, king-right}
 use Rattle.position.proofs.Reading.{reading-range, reading-all, first-none, first-all}
@@ -32,25 +33,24 @@ module _ (mark : ℕ → ℕ) (count : ℕ) (cells : List ℕ) where
   unfolding family
   family-length = length-tab (λ k. setOf (λ n. eqb (mark (cellAt cells n)) k)) 1 count
 
-  pub family-at : (j : ℕ) (d : Bitboard) → j < count → getD (family mark count cells) j d ≡ setOf (λ n. eqb (mark (cellAt cells n)) (1 + j))
-  unfolding family
-  family-at j d h = getD-tab (λ k. setOf (λ n. eqb (mark (cellAt cells n)) k)) 1 count j d h
-
   agrees : (n : ℕ) → 1 ≤ n → n ≤ 81 → anyBelow (disagrees (family mark count cells) (mark (cellAt cells n)) n) count ≡ false
   unfolding disagrees
   agrees n lo hi =
       any-all (disagrees (family mark count cells) (mark (cellAt cells n)) n) count (λ j h.
       let y : j + 1 ≡ 1 + j = omega arith in
       let e : has (getD (family mark count cells) j emptyS) n ≡ eqb (mark (cellAt cells n)) (j + 1) =
-      ap (λ (s : Bitboard). has s n) (family-at j emptyS h) ∙ has-setOf (λ m. eqb (mark (cellAt cells m)) (1 + j)) n
+      ap (λ (s : Bitboard). has s n) (family-at mark count cells j emptyS h) ∙ has-setOf (λ m. eqb (mark (cellAt cells m)) (1 + j)) n
       ∙ ap (λ (t : Bool). t && eqb (mark (cellAt cells n)) (1 + j)) (board-on 9 n lo hi) ∙ ap (eqb (mark (cellAt cells n))) (sym y) in
       rw e (beq-same (eqb (mark (cellAt cells n)) (j + 1))))
+
+  pub family-tidy : AllClean (family mark count cells)
+  family-tidy j h = family-clean mark count cells j emptyS (omega (arith, family-length))
 
   tidy-sets : anyBelow (strayIn (family mark count cells)) count ≡ false
   unfolding strayIn
   tidy-sets =
       any-all (strayIn (family mark count cells)) count (λ j h.
-      ap (λ (s : Bitboard). not (clean s)) (family-at j emptyS h) ∙ ap not (clean-setOf (λ n. eqb (mark (cellAt cells n)) (1 + j))))
+      ap (λ (s : Bitboard). not (clean s)) (family-at mark count cells j emptyS h) ∙ ap not (clean-setOf (λ n. eqb (mark (cellAt cells n)) (1 + j))))
 
   -- sets without stray bits that agree with the cells everywhere are those of the cells
   pub sets-match : (sets : List Bitboard) → length sets ≡ count → anyBelow (strayIn sets) count ≡ false
@@ -262,26 +262,53 @@ module _ (p : Position) (t : Tidy p) where
       ltb-not (setsSize (p .kinds) j + (getD (p .hands) j 0 + getD (p .hands) (j + 7) 0)) (kindRow (j + 1) .limit)
       ∙ ap (λ (x : ℕ). ltb (kindRow (j + 1) .limit) (x + (getD (p .hands) j 0 + getD (p .hands) (j + 7) 0))) (sets-size j h))
 
--- ---- what the comparison with the sets made anew says
-module _ (p : Position) (m : Marks) (of : MarksOf (p .board) m) where
-  pub tidy-bad : m .bad ≡ true → TidyTold p false
-  tidy-bad e = record { yes = λ z. absurd (false≢true z); no = λ _ t. of .bad e (t .cells) }
+-- ---- the sets made anew have no stray bits
+module _ (cells : List ℕ) (m : Marks) (of : m ≡ marksAnswer cells) (e : m .number ≡ 0) where
+  good : allGood cells ≡ true
+  good = marks-told cells m of e
 
-  pub tidy-players : (a : Bool) → m .bad ≡ false → Compared (p .players) (m .players) a → a ≡ false → TidyTold p false
-  tidy-players a e q f = record { yes = λ z. absurd (false≢true z); no = λ _ t. q .differ f (t .players ∙ sym (of .players e)) }
+  players-are : m .players ≡ family colourOf 2 cells
+  players-are = marks-players cells m of good
 
-  pub tidy-kinds : (a r : Bool) → m .bad ≡ false → Compared (p .players) (m .players) a → a ≡ true → Compared (p .kinds) (m .kinds) r → TidyTold p r
-  tidy-kinds a r e q f k =
+  kinds-are : m .kinds ≡ family kindOf 14 cells
+  kinds-are = marks-kinds cells m of good
+
+  pub players-clean : AllClean (m .players)
+  players-clean = rw players-are (family-tidy colourOf 2 cells)
+
+  pub kinds-clean : AllClean (m .kinds)
+  kinds-clean = rw kinds-are (family-tidy kindOf 14 cells)
+
+-- ---- what the comparison with them says
+module _ (p : Position) (m : Marks) (of : m ≡ marksAnswer (p .board)) where
+  pub tidy-bad : (m .number ≡ 0 → ⊥) → TidyTold p false
+  tidy-bad d =
       record {
-        yes = λ z. record { cells = of .good e; players = q .same f ∙ of .players e; kinds = k .same z ∙ of .kinds e };
-        no = λ z t. k .differ z (t .kinds ∙ sym (of .kinds e));
+        yes = λ z. absurd (false≢true z);
+        no = λ _ t. false≢true (sym (marks-refused (p .board) m of d) ∙ good-all (p .board) (t .cells));
       }
+
+  module _ (e : m .number ≡ 0) where
+    pub tidy-players : (a : Bool) → Compared (p .players) (m .players) a → a ≡ false → TidyTold p false
+    tidy-players a q f = record { yes = λ z. absurd (false≢true z); no = λ _ t. q .differ f (t .players ∙ sym (players-are (p .board) m of e)) }
+
+    pub tidy-kinds : (a r : Bool) → Compared (p .players) (m .players) a → a ≡ true → Compared (p .kinds) (m .kinds) r → TidyTold p r
+    tidy-kinds a r q f k =
+        record {
+          yes = λ z.
+              record {
+                cells = all-good (p .board) (good (p .board) m of e);
+                players = q .same f ∙ players-are (p .board) m of e;
+                kinds = k .same z ∙ kinds-are (p .board) m of e;
+              };
+          no = λ z t. k .differ z (t .kinds ∙ sym (kinds-are (p .board) m of e));
+        }
 
 -- ---- the faults elsewhere of a tidy position
 pub elsewhere-tidy : (p : Position) → Tidy p
     → faultElsewhere p
     ≡ kingWrong (p .board) 8 (p .bking)
-    || (kingWrong (p .board) 24 (p .wking) || (anyBelow (overLimit p) 7 || (not (goodColour (p .side)) || (eqb (p .ply) 0 || not (goodLast (p .last))))))
+    || (kingWrong (p .board) 24 (p .wking) || (anyBelow (overLimit p) 7 || (not (goodColour (p .side)) || (not (goodPly (p .ply)) || not (goodLast (p .last))))))
 unfolding faultElsewhere
 elsewhere-tidy p t = let s = tidy-strays p t in rw (s .0, s .1)
 

@@ -17,14 +17,14 @@ use Rattle.position.specs.declared.mv.LastMove.the-variants as Last
 use Rattle.position.specs.declared.answers.Told.{Told}
 use Rattle.position.specs.declared.answers.Stands.{Stands}
 use Rattle.position.specs.declared.answers.Stands.the-variants as Stand
-use Rattle.position.specs.declared.answers.PieceAnswer.{PieceAnswer}
-use Rattle.position.specs.declared.answers.SetAnswer.{SetAnswer}
-use Rattle.position.specs.declared.answers.NumberAnswer.{NumberAnswer}
-use Rattle.position.specs.declared.answers.PlyAnswer.{PlyAnswer}
+use Rattle.position.specs.declared.answers.ToldPiece.{ToldPiece}
+use Rattle.position.specs.declared.answers.ToldSet.{ToldSet}
+use Rattle.position.specs.declared.answers.ToldNumber.{ToldNumber}
+use Rattle.position.specs.declared.answers.ToldPly.{ToldPly}
 use Rattle.position.specs.declared.answers.KingSquare.{KingSquare}
 use Rattle.position.specs.declared.answers.KingSquare.the-variants as King
-use Rattle.position.specs.declared.answers.KingAnswer.{KingAnswer}
-use Rattle.position.specs.declared.answers.LastAnswer.{LastAnswer}
+use Rattle.position.specs.declared.answers.ToldKing.{ToldKing}
+use Rattle.position.specs.declared.answers.ToldLast.{ToldLast}
 
 -- an answer number and its fact
 pub record Fact : Type 0 where
@@ -61,41 +61,41 @@ unfoldable pub stood : ℕ → Stands
 stood c = cond (eqb c 0) Stand.Nothing (Stand.Piece c)
 
 -- piece_at: "Reading a square"
-unfoldable pub pieceAtAnswer : Position → ℕ → PieceAnswer
+unfoldable pub pieceAtAnswer : Position → ℕ → ToldPiece
 pieceAtAnswer p n =
     let bad = not (onBoard 9 n) in
     record { told = toldQuery bad p; stands = cond (answered bad p) (stood (cellAt (p .board) n)) Stand.Nothing }
 
 -- a set of squares by what stands there; the empty set where the call is refused
-unfoldable pub setAnswer : Bool → (ℕ → Bool) → Position → SetAnswer
+unfoldable pub setAnswer : Bool → (ℕ → Bool) → Position → ToldSet
 setAnswer bad test p = record { told = toldQuery bad p; set = cond (answered bad p) (setOf (λ n. test (cellAt (p .board) n))) emptyS }
 
 -- player_bitboard: "Queries: colour sets"
-unfoldable pub colourSetAnswer : Position → ℕ → SetAnswer
+unfoldable pub colourSetAnswer : Position → ℕ → ToldSet
 colourSetAnswer p c = setAnswer (not (goodColour c)) (λ x. eqb (colourOf x) c) p
 
 -- piece_kind_bitboard: "kind sets"
-unfoldable pub kindSetAnswer : Position → ℕ → SetAnswer
+unfoldable pub kindSetAnswer : Position → ℕ → ToldSet
 kindSetAnswer p k = setAnswer (not (goodKind k)) (λ x. eqb (kindOf x) k) p
 
 -- piece_bitboard: "piece set"
-unfoldable pub pieceSetAnswer : Position → ℕ → SetAnswer
+unfoldable pub pieceSetAnswer : Position → ℕ → ToldSet
 pieceSetAnswer p v = setAnswer (not (goodPiece v)) (λ x. eqb x v) p
 
 -- occupied_bitboard: "occupied"
-unfoldable pub occupiedAnswer : Position → SetAnswer
+unfoldable pub occupiedAnswer : Position → ToldSet
 occupiedAnswer p = setAnswer false (λ x. not (eqb x 0)) p
 
 -- vacant_bitboard: "vacant"
-unfoldable pub vacantAnswer : Position → SetAnswer
+unfoldable pub vacantAnswer : Position → ToldSet
 vacantAnswer p = setAnswer false (λ x. eqb x 0) p
 
 -- side_to_move: "side"
-unfoldable pub sideAnswer : Position → NumberAnswer
+unfoldable pub sideAnswer : Position → ToldNumber
 sideAnswer p = record { told = toldQuery false p; value = cond (answered false p) (p .side) 0 }
 
 -- ply: "ply"
-unfoldable pub plyAnswer : Position → PlyAnswer
+unfoldable pub plyAnswer : Position → ToldPly
 plyAnswer p = record { told = toldQuery false p; ply = cond (answered false p) (p .ply) 0 }
 
 -- where a colour's count of the kind k, 1 to 7, stands in the hands: Black's kinds, then White's
@@ -107,7 +107,7 @@ unfoldable pub goodHandKind : ℕ → Bool
 goodHandKind k = leb 1 k && leb k 7
 
 -- hand: "hand count"
-unfoldable pub handAnswer : Position → ℕ → ℕ → NumberAnswer
+unfoldable pub handAnswer : Position → ℕ → ℕ → ToldNumber
 handAnswer p c k =
     let bad = not (goodColour c && goodHandKind k) in
     record { told = toldQuery bad p; value = cond (answered bad p) (getD (p .hands) (handAt c k) 0) 0 }
@@ -117,7 +117,7 @@ unfoldable pub kingAt : ℕ → KingSquare
 kingAt q = cond (eqb q 0) King.Nothing (King.At q)
 
 -- king_position: "king square"; the king of a colour is 8 or 24
-unfoldable pub kingAnswer : Position → ℕ → KingAnswer
+unfoldable pub kingAnswer : Position → ℕ → ToldKing
 kingAnswer p c =
     let bad = not (goodColour c) in
     record { told = toldQuery bad p; king = cond (answered bad p) (kingAt (kingSquare (p .board) (16 * c - 8))) King.Nothing }
@@ -129,7 +129,7 @@ lastMove l =
     (cond (eqb (l .tag) 2) (Last.Was (Drop (l .a) (l .b))) Last.Nothing)
 
 -- last_move: "last move"
-unfoldable pub lastAnswer : Position → LastAnswer
+unfoldable pub lastAnswer : Position → ToldLast
 lastAnswer p = record { told = toldQuery false p; last = cond (answered false p) (lastMove (p .last)) Last.Nothing }
 
 -- soundness: "1: position not sound, with the square reported above"

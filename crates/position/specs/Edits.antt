@@ -7,7 +7,7 @@ use lib.Dec.{eqb}
 use Rattle.squares.specs.Board.{onBoard}
 use Rattle.squares.specs.Kinds.{goodColour, goodCell}
 use Rattle.position.specs.Machine.{Machine, machine, full}
-use Rattle.position.specs.Sound.{sound}
+use Rattle.position.specs.Sound.{goodPly, sound}
 use Rattle.position.specs.Answers.{Fact, gives, firstFact, toldBy, handAt, goodHandKind}
 use Rattle.position.specs.declared.position.Position.{Position}
 use Rattle.position.specs.declared.answers.Answer.{Answer}
@@ -50,6 +50,6 @@ handEdited p c k count = edited (not (goodColour c && goodHandKind k)) p (withHa
 unfoldable pub sideEdited : Position → ℕ → Answer
 sideEdited p c = edited (not (goodColour c)) p (withSide (machine p) c)
 
--- ply_set: "ply"; 2 for "ply 0"
+-- ply_set: "ply"; 2 for "ply 0": its place holds none above the last
 unfoldable pub plyEdited : Position → ℕ → Answer
-plyEdited p n = edited (eqb n 0) p (withPly (machine p) n)
+plyEdited p n = edited (not (goodPly n)) p (withPly (machine p) n)

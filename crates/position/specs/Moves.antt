@@ -7,7 +7,7 @@ use lib.Dec.{eqb, leb}
 use Rattle.squares.specs.Board.{onBoard}
 use Rattle.squares.specs.Kinds.{goodPiece, handKind, otherColour, colourOf, kindOf, promotedPiece}
 use Rattle.position.specs.Machine.{Machine, machine, full, cellAt}
-use Rattle.position.specs.Sound.{sound}
+use Rattle.position.specs.Sound.{sound, topPly}
 use Rattle.position.specs.Answers.{Fact, gives, firstFact, toldBy, handAt}
 use Rattle.position.specs.declared.position.Position.{Position}
 use Rattle.position.specs.declared.mv.Move.{Move}
@@ -28,7 +28,7 @@ normalFacts c t promote side ply =
     ∷ gives 5 (promote && eqb (promotedPiece c) 0)
     ∷ gives 6 (eqb (colourOf t) side)
     ∷ gives 7 (eqb (kindOf t) 8)
-    ∷ gives 11 (eqb ply 65535)
+    ∷ gives 11 (eqb ply topPly)
     ∷ []
 
 -- "for a drop 4, 8, 9, 10, 11"; "10: that kind is not in hand (a king never is)": count is how many are in hand
@@ -38,7 +38,7 @@ dropFacts piece t count side ply =
     ∷ gives 8 (leb 9 (kindOf piece))
     ∷ gives 9 (not (eqb t 0))
     ∷ gives 10 (eqb (kindOf piece) 8 || eqb count 0)
-    ∷ gives 11 (eqb ply 65535)
+    ∷ gives 11 (eqb ply topPly)
     ∷ []
 
 -- the facts of a move on the plain machine

@@ -9,7 +9,7 @@ use Rattle.squares.specs.declared.bitboard.Bitboard.{Bitboard}
 use Rattle.squares.specs.Kinds.{handKind, otherColour, colourOf, kindOf}
 use Rattle.squares.specs.Sets.{emptyS, singleS, xorS}
 use Rattle.position.specs.Machine.{noMove}
-use Rattle.position.specs.Sound.{sound}
+use Rattle.position.specs.Sound.{topPly, sound}
 use Rattle.position.specs.Answers.{handAt}
 use Rattle.position.specs.Moves.{badMove, arriving, numbersOf, movePlayed}
 use Rattle.position.specs.Inner.{OnBoard}
@@ -114,7 +114,7 @@ pub record Playable (p : Position) (plan : Plan) : Type 0 where
   pub at-from : OnBoard (plan .from)
   pub at-to : OnBoard (plan .to)
   pub side : plan .number ≡ 0 → p .side ≤ 2
-  pub ply : plan .number ≡ 0 → p .ply < 65535
+  pub ply : plan .number ≡ 0 → p .ply < topPly
 
 -- a plan that does what make_move is to do; square is the one that it answers
 pub record MovePlan (p : Position) (m : Move) (square : ℕ) (plan : Plan) : Type 0 where

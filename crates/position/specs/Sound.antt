@@ -63,14 +63,22 @@ goodLast l =
     || ((eqb (l .tag) 1 && (onBoard 9 (l .a) && (onBoard 9 (l .b) && leb (l .promote) 1)))
     || (eqb (l .tag) 2 && (goodPiece (l .a) && (onBoard 9 (l .b) && eqb (l .promote) 0))))
 
--- a fault that is no cell's: stray bits, king squares, counts, "The side to move is 1 or 2. Move number is 1..65535.", last move
+-- the last "Move number (ply)"
+unfoldable pub topPly : ℕ
+topPly = 65535
+
+-- "Move number is 1..65535"
+unfoldable pub goodPly : ℕ → Bool
+goodPly n = leb 1 n && leb n topPly
+
+-- a fault that is no cell's: stray bits, king squares, counts, "The side to move is 1 or 2", ply, last move
 unfoldable pub faultElsewhere : Position → Bool
 faultElsewhere p =
     anyBelow (strayIn (p .players)) 2
     || (anyBelow (strayIn (p .kinds)) 14
     || (kingWrong (p .board) 8 (p .bking)
     || (kingWrong (p .board) 24 (p .wking)
-    || (anyBelow (overLimit p) 7 || (not (goodColour (p .side)) || (eqb (p .ply) 0 || not (goodLast (p .last))))))))
+    || (anyBelow (overLimit p) 7 || (not (goodColour (p .side)) || (not (goodPly (p .ply)) || not (goodLast (p .last))))))))
 
 -- "A sound position"
 unfoldable pub sound : Position → Bool

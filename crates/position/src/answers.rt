@@ -15,25 +15,25 @@ pub enum Stands {
     Piece(u8),
 }
 
-pub struct PieceAnswer {
+pub struct ToldPiece {
     pub told: Told,
     pub stands: Stands,
 }
 
 #[repr(C)]
-pub struct SetAnswer {
+pub struct ToldSet {
     pub told: Told,
     pub set: Bitboard,
 }
 
 #[repr(C)]
-pub struct NumberAnswer {
+pub struct ToldNumber {
     pub told: Told,
     pub value: u8,
 }
 
 #[repr(C)]
-pub struct PlyAnswer {
+pub struct ToldPly {
     pub told: Told,
     pub ply: u16,
 }
@@ -43,12 +43,12 @@ pub enum KingSquare {
     At(u8),
 }
 
-pub struct KingAnswer {
+pub struct ToldKing {
     pub told: Told,
     pub king: KingSquare,
 }
 
-pub struct LastAnswer {
+pub struct ToldLast {
     pub told: Told,
     pub last: LastMove,
 }

@@ -2,11 +2,11 @@
 ghost use mathlib.Core.Path.{_≡_};
 ghost use Rattle.position.specs.Plans.{kingAfter, storedBy, toggledAt, Playable};
 use crate::cells::color_of;
-use crate::cells::is_piece;
 use crate::cells::kind_of;
 use crate::cells::single;
 use crate::plan::Plan;
 use crate::position::Position;
+use squares::Piece;
 
 // The square of `king`, which was `was`, after `left` and `taken` have gone from the board and `arrived` was put on `to`.
 fn king_after(king: u8, was: u8, left: u8, taken: u8, arrived: u8, to: u8) -> u8
@@ -44,19 +44,19 @@ pub(crate) fn store(p: Position, plan: Plan) -> Position
     q
 }
 
-// The square `n` leaves the sets of the cell `x`, or joins them.
-pub(crate) fn toggle(p: Position, x: u8, n: u8) -> Position
-    ensures { λ r. ⌜ r ≡ toggledAt p x n ⌝ }
+// The square leaves the sets of the cell, or joins them.
+pub(crate) fn toggle(p: Position, cell: u8, square: u8) -> Position
+    ensures { λ r. ⌜ r ≡ toggledAt p cell square ⌝ }
 {
-    let one = single(n);
+    let one = single(square);
     let mut q = p;
-    if x != 0 {
-        let at = (color_of(x) - 1) as usize;
+    if cell != 0 {
+        let at = (color_of(cell) - 1) as usize;
         let set = q.players[at];
         q.players[at] = set.xor(one);
     }
-    if is_piece(x) {
-        let at = (kind_of(x) - 1) as usize;
+    if Piece::is_good(cell) {
+        let at = (kind_of(cell) - 1) as usize;
         let set = q.kinds[at];
         q.kinds[at] = set.xor(one);
     }

@@ -1,152 +1,126 @@
-// Edits of a position: one cell, one hand count, side, ply. Each builds the position that would follow and asks whether
-// that one is sound.
+// Edits of a position: one cell, one hand count, side, ply. Each makes the position that would follow; where that could be
+// unsound, for its cells or its counts, it is asked.
 ghost use mathlib.Core.Path.{_≡_};
-ghost use mathlib.Core.Bool.{_&&_};
+ghost use mathlib.Core.Bool.{true, _&&_};
 ghost use Rattle.squares.specs.Board.{onBoard};
-ghost use Rattle.squares.specs.Kinds.{goodCell};
-ghost use Rattle.squares.specs.Sets.{smallest};
-ghost use Rattle.position.specs.Machine.{machine, full};
-ghost use Rattle.position.specs.Inner.{AllGood, settled};
-ghost use Rattle.position.specs.Edits.{withCells, cellEdited, handEdited, sideEdited, plyEdited};
+ghost use Rattle.squares.specs.Kinds.{goodColour, goodCell};
+ghost use Rattle.position.specs.Answers.{goodHandKind};
+ghost use Rattle.position.specs.Inner.{WithCell, withHand, toldAfter, settled};
+ghost use Rattle.position.specs.Edits.{cellEdited, handEdited, sideEdited, plyEdited};
 use crate::answers::Answer;
 use crate::answers::Told;
-use crate::cells::is_color;
-use crate::cells::on_board;
+use crate::counts::is_ply;
 use crate::hand::index;
 use crate::position::Position;
+use crate::position::with_board;
 use crate::queries::is_hand;
-use crate::sound::marks_of;
-use crate::sound::told;
-use squares::Bitboard;
+use crate::sound::checked;
+use squares::Color;
 use squares::Piece;
-use squares::PopAnswer;
+use squares::Square;
 
 fn is_cell(square: u8, cell: u8) -> bool
     ensures { λ r. ⌜ r ≡ onBoard 9 square && goodCell cell ⌝ }
 {
-    if on_board(square) {
-        Piece::is_good(cell)
+    if Square::is_good(square) {
+        Piece::is_cell(cell)
     } else {
         false
     }
 }
 
-// The smallest square of a set, or 0.
-fn first_square(set: Bitboard) -> u8
-    ensures { λ r. ⌜ r ≡ smallest set ⌝ }
+// The position with one cell changed; as it is where there is no such square.
+fn with_cell(p: Position, square: u8, cell: u8) -> Position
+    ensures { λ r. ⌜ WithCell p square cell r ⌝ }
 {
-    match set.pop() {
-        PopAnswer::Square(n, _) => n,
-        PopAnswer::Nothing => 0,
+    if !Square::is_good(square) {
+        return p;
     }
+    let at = (square - 1) as usize;
+    let mut board = p.board;
+    board[at] = cell;
+    with_board(p, board)
 }
 
-// A position with other cells: the sets and the king squares are made anew from them.
-fn with_board(p: Position, board: [u8; 81]) -> Position
-    requires { ⌜ AllGood board ⌝ }
-    ensures { λ r. ⌜ r ≡ full (withCells (machine p) board) ⌝ }
+// The position with one hand count changed; as it is where there is no such hand.
+fn with_hand(p: Position, color: u8, kind: u8, count: u8) -> Position
+    ensures { λ r. ⌜ (goodColour color && goodHandKind kind ≡ true → r ≡ withHand p color kind count) ⌝ }
 {
-    let marks = marks_of(&board);
-    let players = marks.players;
-    let kinds = marks.kinds;
-    let black = players[0];
-    let white = players[1];
-    let kings = kinds[7];
-    let bking = first_square(black.and(kings));
-    let wking = first_square(white.and(kings));
-    let hands = p.hands;
-    let last = p.last;
-    Position {
-        board,
-        hands,
-        bking,
-        wking,
-        side: p.side,
-        last,
-        ply: p.ply,
-        players,
-        kinds,
+    if !is_hand(color, kind) {
+        return p;
     }
+    let at = index(color, kind);
+    let mut next = p;
+    next.hands[at] = count;
+    next
 }
 
-fn with_number(number: u8, p: Position) -> Answer
-    ensures { λ r. ⌜ r ≡ record { told = record { number = number; square = 0 }; position = p } ⌝ }
+// What is told of an edit that makes `next`: 13 where nothing refused before and that is not sound.
+fn told_after(told: Told, next: Position) -> Told
+    ensures { λ r. ⌜ r ≡ toldAfter told next ⌝ }
 {
-    let told = Told { number, square: 0 };
-    Answer { told, position: p }
+    if told.number != 0 {
+        return told;
+    }
+    if next.soundness().number != 0 {
+        return Told {
+            number: 13,
+            square: 0,
+        };
+    }
+    told
 }
 
-// What the edit of a sound position `p` answers that would make it `q`.
-fn settle(p: Position, q: Position) -> Answer
-    ensures { λ r. ⌜ r ≡ settled p q ⌝ }
+// The edited position where no number refuses, else the position as given.
+fn settle(told: Told, given: Position, next: Position) -> Answer
+    ensures { λ r. ⌜ r ≡ settled told given next ⌝ }
 {
-    let found = q.soundness();
-    if found.number != 0 {
-        return with_number(13, p);
+    if told.number == 0 {
+        return Answer {
+            told,
+            position: next,
+        };
     }
-    with_number(0, q)
+    Answer {
+        told,
+        position: given,
+    }
 }
 
 impl Position {
     pub fn piece_set(self, square: u8, cell: u8) -> Answer
         ensures { λ r. ⌜ r ≡ cellEdited self square cell ⌝ }
     {
-        let first = told(!is_cell(square, cell), self);
-        if first.number != 0 {
-            return Answer {
-                told: first,
-                position: self,
-            };
-        }
-        let at = (square - 1) as usize;
-        let mut board = self.board;
-        board[at] = cell;
-        settle(self, with_board(self, board))
+        let told = checked(!is_cell(square, cell), self);
+        let next = with_cell(self, square, cell);
+        settle(told_after(told, next), self, next)
     }
 
     pub fn hand_set(self, color: u8, kind: u8, count: u8) -> Answer
         ensures { λ r. ⌜ r ≡ handEdited self color kind count ⌝ }
     {
-        let first = told(!is_hand(color, kind), self);
-        if first.number != 0 {
-            return Answer {
-                told: first,
-                position: self,
-            };
-        }
-        let at = index(color, kind);
-        let mut next = self;
-        next.hands[at] = count;
-        settle(self, next)
+        let told = checked(!is_hand(color, kind), self);
+        let next = with_hand(self, color, kind, count);
+        settle(told_after(told, next), self, next)
     }
 
+    // A good side of a sound position leaves it sound: nothing more is asked.
     pub fn side_to_move_set(self, color: u8) -> Answer
         ensures { λ r. ⌜ r ≡ sideEdited self color ⌝ }
     {
-        let first = told(!is_color(color), self);
-        if first.number != 0 {
-            return Answer {
-                told: first,
-                position: self,
-            };
-        }
+        let told = checked(!Color::is_good(color), self);
         let mut next = self;
         next.side = color;
-        settle(self, next)
+        settle(told, self, next)
     }
 
+    // So does a good ply.
     pub fn ply_set(self, ply: u16) -> Answer
         ensures { λ r. ⌜ r ≡ plyEdited self ply ⌝ }
     {
-        let first = told(ply == 0, self);
-        if first.number != 0 {
-            return Answer {
-                told: first,
-                position: self,
-            };
-        }
+        let told = checked(!is_ply(ply), self);
         let mut next = self;
         next.ply = ply;
-        settle(self, next)
+        settle(told, self, next)
     }
 }

@@ -3,6 +3,7 @@ ghost use mathlib.Core.Path.{_≡_};
 ghost use mathlib.Core.Bool.{_&&_, _||_};
 ghost use lib.Dec.{eqb, leb};
 ghost use Rattle.squares.specs.Kinds.{colourOf, kindOf, promotedPiece};
+ghost use Rattle.position.specs.Sound.{topPly};
 ghost use Rattle.position.specs.Answers.{firstFact, toldQuery};
 ghost use Rattle.position.specs.Moves.{badMove, normalFacts, dropFacts, movePlayed};
 ghost use Rattle.position.specs.Plans.{Ready, MovePlan};
@@ -26,32 +27,32 @@ use crate::plan::drop_plan;
 use crate::plan::normal_plan;
 use crate::plan::refused;
 use crate::position::Position;
-use crate::sound::told;
+use crate::sound::checked;
 
 // ---- the facts of a move, each by itself
 
-fn is_of(c: u8, color: u8) -> bool
-    ensures { λ r. ⌜ r ≡ eqb (colourOf c) color ⌝ }
+fn is_of(cell: u8, color: u8) -> bool
+    ensures { λ r. ⌜ r ≡ eqb (colourOf cell) color ⌝ }
 {
-    color_of(c) == color
+    color_of(cell) == color
 }
 
-fn has_no_form(promote: bool, c: u8) -> bool
-    ensures { λ r. ⌜ r ≡ promote && eqb (promotedPiece c) 0 ⌝ }
+fn has_no_form(promote: bool, piece: u8) -> bool
+    ensures { λ r. ⌜ r ≡ promote && eqb (promotedPiece piece) 0 ⌝ }
 {
-    if promote { promoted(c) == 0 } else { false }
+    if promote { promoted(piece) == 0 } else { false }
 }
 
-fn is_king(c: u8) -> bool
-    ensures { λ r. ⌜ r ≡ eqb (kindOf c) 8 ⌝ }
+fn is_king(cell: u8) -> bool
+    ensures { λ r. ⌜ r ≡ eqb (kindOf cell) 8 ⌝ }
 {
-    kind_of(c) == 8
+    kind_of(cell) == 8
 }
 
-fn is_promoted(c: u8) -> bool
-    ensures { λ r. ⌜ r ≡ leb 9 (kindOf c) ⌝ }
+fn is_promoted(piece: u8) -> bool
+    ensures { λ r. ⌜ r ≡ leb 9 (kindOf piece) ⌝ }
 {
-    9 <= kind_of(c)
+    9 <= kind_of(piece)
 }
 
 fn is_not_held(piece: u8, count: u8) -> bool
@@ -61,26 +62,26 @@ fn is_not_held(piece: u8, count: u8) -> bool
 }
 
 fn is_last(ply: u16) -> bool
-    ensures { λ r. ⌜ r ≡ eqb ply 65535 ⌝ }
+    ensures { λ r. ⌜ r ≡ eqb ply topPly ⌝ }
 {
-    ply == 65535
+    ply == Position::TOP_PLY
 }
 
-// The number that refuses a piece `c` to go where `t` stands, 0 where none does.
-fn normal_refusal(c: u8, t: u8, promote: bool, side: u8, ply: u16) -> u8
-    requires { ⌜ (c ≡ 0 → ⊥) ⌝ }
-    ensures { λ r. ⌜ r ≡ firstFact (normalFacts c t promote side ply) ⌝ }
+// The number that refuses a piece to go where `target` stands, 0 where none does.
+fn normal_refusal(piece: u8, target: u8, promote: bool, side: u8, ply: u16) -> u8
+    requires { ⌜ (piece ≡ 0 → ⊥) ⌝ }
+    ensures { λ r. ⌜ r ≡ firstFact (normalFacts piece target promote side ply) ⌝ }
 {
-    if !is_of(c, side) {
+    if !is_of(piece, side) {
         return 4;
     }
-    if has_no_form(promote, c) {
+    if has_no_form(promote, piece) {
         return 5;
     }
-    if is_of(t, side) {
+    if is_of(target, side) {
         return 6;
     }
-    if is_king(t) {
+    if is_king(target) {
         return 7;
     }
     if is_last(ply) {
@@ -89,9 +90,9 @@ fn normal_refusal(c: u8, t: u8, promote: bool, side: u8, ply: u16) -> u8
     0
 }
 
-// The number that refuses to drop `piece`, of which `count` are in hand, where `t` stands, 0 where none does.
-fn drop_refusal(piece: u8, t: u8, count: u8, side: u8, ply: u16) -> u8
-    ensures { λ r. ⌜ r ≡ firstFact (dropFacts piece t count side ply) ⌝ }
+// The number that refuses to drop `piece`, of which `count` are in hand, where `target` stands, 0 where none does.
+fn drop_refusal(piece: u8, target: u8, count: u8, side: u8, ply: u16) -> u8
+    ensures { λ r. ⌜ r ≡ firstFact (dropFacts piece target count side ply) ⌝ }
 {
     if !is_of(piece, side) {
         return 4;
@@ -99,7 +100,7 @@ fn drop_refusal(piece: u8, t: u8, count: u8, side: u8, ply: u16) -> u8
     if is_promoted(piece) {
         return 8;
     }
-    if t != 0 {
+    if target != 0 {
         return 9;
     }
     if is_not_held(piece, count) {
@@ -118,11 +119,11 @@ fn make_normal(p: Position, from: u8, to: u8, promote: bool) -> Plan
     ensures { λ r. ⌜ MovePlan p (Move.Normal from to promote) 0 r ⌝ }
 {
     let board = p.board;
-    let Stands::Piece(c) = standing(&board, from) else {
+    let Stands::Piece(piece) = standing(&board, from) else {
         return refused(3);
     };
-    let t = cell(&board, to);
-    let number = normal_refusal(c, t, promote, p.side, p.ply);
+    let target = cell(&board, to);
+    let number = normal_refusal(piece, target, promote, p.side, p.ply);
     if number != 0 {
         return refused(number);
     }
@@ -131,7 +132,7 @@ fn make_normal(p: Position, from: u8, to: u8, promote: bool) -> Plan
         let more = hold(hands, p.side, taken);
         hands = more;
     }
-    normal_plan(from, to, promote, c, t, hands)
+    normal_plan(from, to, promote, piece, target, hands)
 }
 
 fn make_drop(p: Position, piece: u8, to: u8) -> Plan
@@ -141,13 +142,13 @@ fn make_drop(p: Position, piece: u8, to: u8) -> Plan
     let board = p.board;
     let hands = p.hands;
     let count = in_hand(hands, p.side, piece);
-    let c = cell(&board, to);
-    let refusal = drop_refusal(piece, c, count, p.side, p.ply);
+    let target = cell(&board, to);
+    let refusal = drop_refusal(piece, target, count, p.side, p.ply);
     if refusal != 0 {
         return refused(refusal);
     }
     let hands = spend(hands, p.side, piece);
-    drop_plan(piece, to, c, hands)
+    drop_plan(piece, to, target, hands)
 }
 
 // `first` is what refuses before the move is looked at.
@@ -168,7 +169,7 @@ impl Position {
     pub fn make_move(self, m: Move) -> Answer
         ensures { λ r. ⌜ r ≡ movePlayed self m ⌝ }
     {
-        let first = told(bad_move(m), self);
+        let first = checked(bad_move(m), self);
         let plan = make_plan(self, m, first);
         // A function of these four calls would copy the position twice more.
         let q = store(self, plan);

@@ -1,9 +1,11 @@
 // Moves, as calls speak of them and as a position stores them.
 ghost use mathlib.Core.Path.{_≡_};
+ghost use mathlib.Core.Bool.{_&&_};
 ghost use Rattle.position.specs.Machine.{noMove};
+ghost use Rattle.position.specs.Sound.{goodLast};
 ghost use Rattle.position.specs.Moves.{badMove, numbersOf};
-use crate::cells::is_piece;
-use crate::cells::on_board;
+use squares::Piece;
+use squares::Square;
 
 pub enum Move {
     Normal { from: u8, to: u8, promote: bool },
@@ -37,7 +39,7 @@ impl MoveNumbers {
         }
     }
 
-    pub fn of(m: Move) -> Self
+    pub(crate) fn of(m: Move) -> Self
         ensures { λ r. ⌜ r ≡ numbersOf m ⌝ }
     {
         match m {
@@ -58,6 +60,36 @@ impl MoveNumbers {
             },
         }
     }
+
+    // Whether it is none, or has good numbers.
+    pub(crate) fn is_good(self) -> bool
+        ensures { λ r. ⌜ r ≡ goodLast self ⌝ }
+    {
+        let tag = self.tag;
+        let a = self.a;
+        let b = self.b;
+        let promote = self.promote;
+        if tag == 0 {
+            return all_three(a == 0, b == 0, promote == 0);
+        }
+        if tag == 1 {
+            return all_three(Square::is_good(a), Square::is_good(b), promote <= 1);
+        }
+        if tag == 2 {
+            return all_three(Piece::is_good(a), Square::is_good(b), promote == 0);
+        }
+        false
+    }
+}
+
+fn all_three(first: bool, second: bool, third: bool) -> bool
+    ensures { λ r. ⌜ r ≡ first && (second && third) ⌝ }
+{
+    if first {
+        if second { third } else { false }
+    } else {
+        false
+    }
 }
 
 // Whether a number of the move is out of range.
@@ -69,7 +101,19 @@ pub(crate) fn bad_move(m: Move) -> bool
             from,
             to,
             promote: _,
-        } => { if on_board(from) { !on_board(to) } else { true } }
-        Move::Drop { piece, to } => { if is_piece(piece) { !on_board(to) } else { true } }
+        } => {
+            if Square::is_good(from) {
+                !Square::is_good(to)
+            } else {
+                true
+            }
+        }
+        Move::Drop { piece, to } => {
+            if Piece::is_good(piece) {
+                !Square::is_good(to)
+            } else {
+                true
+            }
+        }
     }
 }

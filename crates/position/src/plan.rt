@@ -38,46 +38,53 @@ pub(crate) fn refused(number: u8) -> Plan
 }
 
 // The piece that arrives: promoted if asked.
-fn arrival(promote: bool, c: u8) -> u8
-    ensures { λ r. ⌜ r ≡ arriving promote c ⌝ }
+fn arrival(promote: bool, piece: u8) -> u8
+    ensures { λ r. ⌜ r ≡ arriving promote piece ⌝ }
 {
-    if promote { promoted(c) } else { c }
+    if promote { promoted(piece) } else { piece }
 }
 
-// What stands on `to`, where `t` stood, once `from` is empty.
-fn taken_on(from: u8, to: u8, t: u8) -> u8
-    ensures { λ r. ⌜ r ≡ cond (eqb from to) 0 t ⌝ }
+// What stands on `to`, where `target` stood, once `from` is empty.
+fn taken_on(from: u8, to: u8, target: u8) -> u8
+    ensures { λ r. ⌜ r ≡ cond (eqb from to) 0 target ⌝ }
 {
-    if from == to { 0 } else { t }
+    if from == to { 0 } else { target }
 }
 
-// The piece `c` goes to a square where `t` stands; `hands` are those after it.
-pub(crate) fn normal_plan(from: u8, to: u8, promote: bool, c: u8, t: u8, hands: [u8; 14]) -> Plan
-    ensures { λ r. ⌜ r ≡ normalPlan from to promote c t hands ⌝ }
+// The piece goes to a square where `target` stands; `hands` are those after it.
+pub(crate) fn normal_plan(
+    from: u8,
+    to: u8,
+    promote: bool,
+    piece: u8,
+    target: u8,
+    hands: [u8; 14],
+) -> Plan
+    ensures { λ r. ⌜ r ≡ normalPlan from to promote piece target hands ⌝ }
 {
     let last = MoveNumbers::of(Move::Normal { from, to, promote });
     Plan {
         number: 0,
         from,
         to,
-        left: c,
-        taken: taken_on(from, to, t),
-        piece: arrival(promote, c),
+        left: piece,
+        taken: taken_on(from, to, target),
+        piece: arrival(promote, piece),
         hands,
         last,
     }
 }
 
-// The square is emptied first, of `c`: where a drop is accepted it is empty.
-pub(crate) fn drop_plan(piece: u8, to: u8, c: u8, hands: [u8; 14]) -> Plan
-    ensures { λ r. ⌜ r ≡ dropPlan piece to c hands ⌝ }
+// The square is emptied first, of `target`: where a drop is accepted it is empty.
+pub(crate) fn drop_plan(piece: u8, to: u8, target: u8, hands: [u8; 14]) -> Plan
+    ensures { λ r. ⌜ r ≡ dropPlan piece to target hands ⌝ }
 {
     let last = MoveNumbers::of(Move::Drop { piece, to });
     Plan {
         number: 0,
         from: to,
         to,
-        left: c,
+        left: target,
         taken: 0,
         piece,
         hands,

@@ -1,26 +1,36 @@
 // A position: 81 cells, two hands, side, ply and last move; beside them the king squares and the sixteen sets, which follow
 // from the cells. Integers only, laid out as in C: the firmware lends this very struct.
 ghost use mathlib.Core.Path.{_≡_};
+ghost use Rattle.squares.specs.Sets.{smallest};
 ghost use Rattle.position.specs.Machine.{emptyPosition, startPosition};
+ghost use Rattle.position.specs.Inner.{WithBoard};
 use crate::mv::MoveNumbers;
 use squares::Bitboard;
+use squares::Color;
+use squares::Marks;
+use squares::PieceKind;
+use squares::PopAnswer;
+use squares::Square;
 
 #[repr(C)]
 pub struct Position {
-    pub board: [u8; 81],
+    pub board: [u8; Square::NUM],
     pub hands: [u8; 14],
     pub bking: u8,
     pub wking: u8,
     pub side: u8,
     pub last: MoveNumbers,
     pub ply: u16,
-    pub players: [Bitboard; 2],
-    pub kinds: [Bitboard; 14],
+    pub players: [Bitboard; Color::NUM],
+    pub kinds: [Bitboard; PieceKind::NUM],
 }
 
 impl Position {
+    // The last move number that there is: no move is made at it.
+    pub const TOP_PLY: u16 = 65535;
+
     // Each file from rank 1 to rank 9, file 1 first.
-    const START: [u8; 81] = [
+    const START: [u8; Square::NUM] = [
         18,
         0,
         17,
@@ -109,10 +119,10 @@ impl Position {
         ensures { λ r. ⌜ r ≡ emptyPosition ⌝ }
     {
         let none = Bitboard::empty();
-        let board = [0u8; 81];
+        let board = [0u8; Square::NUM];
         let hands = [0u8; 14];
-        let players = [none; 2];
-        let kinds = [none; 14];
+        let players = [none; Color::NUM];
+        let kinds = [none; PieceKind::NUM];
         let last = MoveNumbers::none();
         Self {
             board,
@@ -130,77 +140,44 @@ impl Position {
     pub fn startpos() -> Self
         ensures { λ r. ⌜ r ≡ startPosition ⌝ }
     {
-        let none = Bitboard::empty();
-        let black = Bitboard {
-            lo: 0x5028_140a_0503_8140,
-            hi: 0x2_81c0,
-        };
-        let white = Bitboard {
-            lo: 0x140_a050_2814_0e05,
-            hi: 0xa07,
-        };
-        let pawns = Bitboard {
-            lo: 0x1108_8442_2110_8844,
-            hi: 0x8844,
-        };
-        let lances = Bitboard {
-            lo: 0x101,
-            hi: 0x2_0200,
-        };
-        let knights = Bitboard {
-            lo: 0x2_0200,
-            hi: 0x101,
-        };
-        let silvers = Bitboard {
-            lo: 0x4040_0000_0404_0000,
-            hi: 0x0,
-        };
-        let golds = Bitboard {
-            lo: 0x20_2008_0800_0000,
-            hi: 0x0,
-        };
-        let bishops = Bitboard {
-            lo: 0x400,
-            hi: 0x80,
-        };
-        let rooks = Bitboard {
-            lo: 0x1_0000,
-            hi: 0x2,
-        };
-        let kings = Bitboard {
-            lo: 0x1010_0000_0000,
-            hi: 0x0,
-        };
         let board = Self::START;
-        let hands = [0u8; 14];
-        let players = [black, white];
-        let kinds = [
-            pawns,
-            lances,
-            knights,
-            silvers,
-            golds,
-            bishops,
-            rooks,
-            kings,
-            none,
-            none,
-            none,
-            none,
-            none,
-            none,
-        ];
-        let last = MoveNumbers::none();
-        Self {
-            board,
-            hands,
-            bking: 45,
-            wking: 37,
-            side: 1,
-            last,
-            ply: 1,
-            players,
-            kinds,
-        }
+        with_board(Self::empty(), board)
+    }
+}
+
+// The smallest square of a set, or 0.
+fn first_square(set: Bitboard) -> u8
+    ensures { λ r. ⌜ r ≡ smallest set ⌝ }
+{
+    match set.pop() {
+        PopAnswer::Square(n, _) => n,
+        PopAnswer::Nothing => 0,
+    }
+}
+
+// A position with other cells, which are good: the sets and the king squares are made anew from them.
+pub(crate) fn with_board(p: Position, board: [u8; Square::NUM]) -> Position
+    ensures { λ r. ⌜ WithBoard p board r ⌝ }
+{
+    let marks = Marks::of(&board);
+    let players = marks.players;
+    let kinds = marks.kinds;
+    let black = players[0];
+    let white = players[1];
+    let kings = kinds[7];
+    let bking = first_square(black.and(kings));
+    let wking = first_square(white.and(kings));
+    let hands = p.hands;
+    let last = p.last;
+    Position {
+        board,
+        hands,
+        bking,
+        wking,
+        side: p.side,
+        last,
+        ply: p.ply,
+        players,
+        kinds,
     }
 }

@@ -1,45 +1,39 @@
 // Queries of a position. Each answers 2 where its numbers are bad, then 1 where the position is not sound, then its value.
 ghost use mathlib.Core.Path.{_≡_};
-ghost use mathlib.Core.Bool.{_&&_, cond};
+ghost use mathlib.Core.Bool.{true, _&&_, cond};
 ghost use lib.Dec.{eqb};
 ghost use Rattle.position.specs.Answers.{pieceAtAnswer, colourSetAnswer, kindSetAnswer, pieceSetAnswer, occupiedAnswer, vacantAnswer};
 ghost use Rattle.position.specs.Answers.{sideAnswer, plyAnswer, goodHandKind, handAnswer, kingAt, kingAnswer, lastMove, lastAnswer};
+ghost use Rattle.position.specs.Inner.{markSet, toldSet};
 ghost use Rattle.squares.specs.Kinds.{goodColour, goodKind};
-use crate::answers::KingAnswer;
 use crate::answers::KingSquare;
-use crate::answers::LastAnswer;
-use crate::answers::NumberAnswer;
-use crate::answers::PieceAnswer;
-use crate::answers::PlyAnswer;
-use crate::answers::SetAnswer;
 use crate::answers::Stands;
-use crate::cells::is_color;
-use crate::cells::is_piece;
-use crate::cells::on_board;
+use crate::answers::Told;
+use crate::answers::ToldKing;
+use crate::answers::ToldLast;
+use crate::answers::ToldNumber;
+use crate::answers::ToldPiece;
+use crate::answers::ToldPly;
+use crate::answers::ToldSet;
+use crate::cells::color_of;
+use crate::cells::kind_of;
 use crate::cells::standing;
 use crate::hand::index;
 use crate::mv::LastMove;
 use crate::mv::Move;
 use crate::mv::MoveNumbers;
 use crate::position::Position;
-use crate::sound::color_index;
-use crate::sound::kind_index;
-use crate::sound::told;
+use crate::sound::checked;
 use squares::Bitboard;
-
-fn is_kind(kind: u8) -> bool
-    ensures { λ r. ⌜ r ≡ goodKind kind ⌝ }
-{
-    match kind {
-        1..=14 => true,
-        _ => false,
-    }
-}
+use squares::Color;
+use squares::Piece;
+use squares::PieceKind;
+use squares::Square;
 
 pub(crate) fn is_hand(color: u8, kind: u8) -> bool
     ensures { λ r. ⌜ r ≡ goodColour color && goodHandKind kind ⌝ }
 {
-    if is_color(color) {
+    if Color::is_good(color) {
         if 1 <= kind { kind <= 7 } else { false }
     } else {
         false
@@ -83,140 +77,148 @@ fn last_of(last: MoveNumbers) -> LastMove
     LastMove::Nothing
 }
 
+// The set of a colour; the empty one of a number that is no colour.
+fn player_set(sets: [Bitboard; Color::NUM], color: u8) -> Bitboard
+    ensures { λ r. ⌜ (goodColour color ≡ true → r ≡ markSet sets color) ⌝ }
+{
+    if Color::is_good(color) {
+        let at = (color - 1) as usize;
+        sets[at]
+    } else {
+        Bitboard::empty()
+    }
+}
+
+// The set of a kind; the empty one of a number that is no kind.
+fn kind_set(sets: [Bitboard; PieceKind::NUM], kind: u8) -> Bitboard
+    ensures { λ r. ⌜ (goodKind kind ≡ true → r ≡ markSet sets kind) ⌝ }
+{
+    if PieceKind::is_good(kind) {
+        let at = (kind - 1) as usize;
+        sets[at]
+    } else {
+        Bitboard::empty()
+    }
+}
+
+// The set where no number refuses, else the empty one.
+fn told_set(told: Told, set: Bitboard) -> ToldSet
+    ensures { λ r. ⌜ r ≡ toldSet told set ⌝ }
+{
+    if told.number == 0 {
+        return ToldSet { told, set };
+    }
+    let none = Bitboard::empty();
+    ToldSet { told, set: none }
+}
+
 impl Position {
-    pub fn piece_at(self, square: u8) -> PieceAnswer
+    pub fn piece_at(self, square: u8) -> ToldPiece
         ensures { λ r. ⌜ r ≡ pieceAtAnswer self square ⌝ }
     {
-        let told = told(!on_board(square), self);
+        let told = checked(!Square::is_good(square), self);
         if told.number != 0 {
             let stands = Stands::Nothing;
-            return PieceAnswer { told, stands };
+            return ToldPiece { told, stands };
         }
         let board = self.board;
         let stands = standing(&board, square);
-        PieceAnswer { told, stands }
+        ToldPiece { told, stands }
     }
 
-    pub fn player_bitboard(self, color: u8) -> SetAnswer
+    pub fn player_bitboard(self, color: u8) -> ToldSet
         ensures { λ r. ⌜ r ≡ colourSetAnswer self color ⌝ }
     {
-        let told = told(!is_color(color), self);
-        if told.number != 0 {
-            let set = Bitboard::empty();
-            return SetAnswer { told, set };
-        }
-        let at = (color - 1) as usize;
-        let set = self.players[at];
-        SetAnswer { told, set }
+        let told = checked(!Color::is_good(color), self);
+        let sets = self.players;
+        told_set(told, player_set(sets, color))
     }
 
-    pub fn piece_kind_bitboard(self, kind: u8) -> SetAnswer
+    pub fn piece_kind_bitboard(self, kind: u8) -> ToldSet
         ensures { λ r. ⌜ r ≡ kindSetAnswer self kind ⌝ }
     {
-        let told = told(!is_kind(kind), self);
-        if told.number != 0 {
-            let set = Bitboard::empty();
-            return SetAnswer { told, set };
-        }
-        let at = (kind - 1) as usize;
-        let set = self.kinds[at];
-        SetAnswer { told, set }
+        let told = checked(!PieceKind::is_good(kind), self);
+        let sets = self.kinds;
+        told_set(told, kind_set(sets, kind))
     }
 
-    pub fn piece_bitboard(self, piece: u8) -> SetAnswer
+    pub fn piece_bitboard(self, piece: u8) -> ToldSet
         ensures { λ r. ⌜ r ≡ pieceSetAnswer self piece ⌝ }
     {
-        let told = told(!is_piece(piece), self);
-        if told.number != 0 {
-            let set = Bitboard::empty();
-            return SetAnswer { told, set };
-        }
-        let at = color_index(piece);
-        let of_color = self.players[at];
-        let at = kind_index(piece);
-        let of_kind = self.kinds[at];
-        let set = of_color.and(of_kind);
-        SetAnswer { told, set }
+        let told = checked(!Piece::is_good(piece), self);
+        let players = self.players;
+        let kinds = self.kinds;
+        let of_color = player_set(players, color_of(piece));
+        let of_kind = kind_set(kinds, kind_of(piece));
+        told_set(told, of_color.and(of_kind))
     }
 
-    pub fn occupied_bitboard(self) -> SetAnswer
+    pub fn occupied_bitboard(self) -> ToldSet
         ensures { λ r. ⌜ r ≡ occupiedAnswer self ⌝ }
     {
-        let told = told(false, self);
-        if told.number != 0 {
-            let set = Bitboard::empty();
-            return SetAnswer { told, set };
-        }
         let black = self.players[0];
         let white = self.players[1];
-        let set = black.or(white);
-        SetAnswer { told, set }
+        told_set(self.soundness(), black.or(white))
     }
 
-    pub fn vacant_bitboard(self) -> SetAnswer
+    pub fn vacant_bitboard(self) -> ToldSet
         ensures { λ r. ⌜ r ≡ vacantAnswer self ⌝ }
     {
-        let occupied = self.occupied_bitboard();
-        let told = occupied.told;
-        if told.number != 0 {
-            let set = Bitboard::empty();
-            return SetAnswer { told, set };
-        }
-        let taken = occupied.set;
-        let set = taken.not();
-        SetAnswer { told, set }
+        let black = self.players[0];
+        let white = self.players[1];
+        told_set(self.soundness(), black.or(white).not())
     }
 
-    pub fn side_to_move(self) -> NumberAnswer
+    pub fn side_to_move(self) -> ToldNumber
         ensures { λ r. ⌜ r ≡ sideAnswer self ⌝ }
     {
-        let told = told(false, self);
+        let told = self.soundness();
         let value = if told.number == 0 { self.side } else { 0 };
-        NumberAnswer { told, value }
+        ToldNumber { told, value }
     }
 
-    pub fn ply(self) -> PlyAnswer
+    pub fn ply(self) -> ToldPly
         ensures { λ r. ⌜ r ≡ plyAnswer self ⌝ }
     {
-        let told = told(false, self);
+        let told = self.soundness();
         let ply = if told.number == 0 { self.ply } else { 0 };
-        PlyAnswer { told, ply }
+        ToldPly { told, ply }
     }
 
-    pub fn hand(self, color: u8, kind: u8) -> NumberAnswer
+    pub fn hand(self, color: u8, kind: u8) -> ToldNumber
         ensures { λ r. ⌜ r ≡ handAnswer self color kind ⌝ }
     {
-        let told = told(!is_hand(color, kind), self);
+        let told = checked(!is_hand(color, kind), self);
         if told.number != 0 {
-            return NumberAnswer { told, value: 0 };
+            return ToldNumber { told, value: 0 };
         }
         let at = index(color, kind);
         let value = self.hands[at];
-        NumberAnswer { told, value }
+        ToldNumber { told, value }
     }
 
-    pub fn king_position(self, color: u8) -> KingAnswer
+    pub fn king_position(self, color: u8) -> ToldKing
         ensures { λ r. ⌜ r ≡ kingAnswer self color ⌝ }
     {
-        let told = told(!is_color(color), self);
+        let told = checked(!Color::is_good(color), self);
         if told.number != 0 {
             let king = KingSquare::Nothing;
-            return KingAnswer { told, king };
+            return ToldKing { told, king };
         }
         let king = king_at(of_color(color, self.bking, self.wking));
-        KingAnswer { told, king }
+        ToldKing { told, king }
     }
 
-    pub fn last_move(self) -> LastAnswer
+    pub fn last_move(self) -> ToldLast
         ensures { λ r. ⌜ r ≡ lastAnswer self ⌝ }
     {
-        let told = told(false, self);
+        let told = self.soundness();
         if told.number != 0 {
             let last = LastMove::Nothing;
-            return LastAnswer { told, last };
+            return ToldLast { told, last };
         }
         let numbers = self.last;
         let last = last_of(numbers);
-        LastAnswer { told, last }
+        ToldLast { told, last }
     }
 }

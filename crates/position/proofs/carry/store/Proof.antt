@@ -1,6 +1,7 @@
 use native.Mathlib.Omega.{arith}
 use borrow.Author.Tests.{eq-eqb, ne-eqb}
 use Rattle.squares.specs.Kinds.{otherColour}
+use Rattle.position.specs.Sound.{topPly}
 use Rattle.position.specs.Plans.{storedBy}
 use borrow.Author.Needs.{needs}
 use Rattle.position.proofs.carry.store.Statement.{statement}
@@ -10,6 +11,7 @@ sub-q : tie.Need-sub-q
 sub-q c = let t = c .before .before .before .before .before in omega (arith, t .before .before .pre .side (t .if1 .taken))
 
 add-q : tie.Need-add-q
+unfolding topPly
 add-q c = let t = c .before .before .before .before .before .before in omega (arith, t .before .before .pre .ply (t .if1 .taken))
 
 returns : tie.Need-returns

@@ -7,7 +7,8 @@ use Rattle.squares.specs.Kinds.{goodPiece}
 use Rattle.squares.proofs.Laws.{piece-kind}
 use Rattle.position.specs.Machine.{Sized}
 use Rattle.position.proofs.Sizes.{sized}
-use Rattle.position.proofs.Playing.{colour-in, Coloured, colour-toggled, colour-same, kind-toggled, kind-same}
+use Rattle.position.proofs.Playing.{Coloured, colour-toggled, colour-same, kind-toggled, kind-same}
+use Rattle.position.proofs.Pieces.{colour-in}
 use Rattle.position.proofs.carry.toggle.Statement.{statement}
 use Rattle.position.proofs.carry.toggle.Tie as tie
 
@@ -17,14 +18,14 @@ size s = sized _ _ (s .good .0)
 colour : (q : tie.After-color-of) → (1 ≤ q .color-of .result) × (q .color-of .result ≤ 2)
 colour q = rw (q .color-of .ensures) (colour-in _ (q .before .if1 .taken))
 
-good : (q : tie.After-kind-of) → goodPiece (q .before .before .before .before .before .args .x) ≡ true
-good q = sym (q .before .before .is-piece .ensures) ∙ q .before .if2 .taken
+good : (q : tie.After-kind-of) → goodPiece (q .before .before .before .before .before .args .cell) ≡ true
+good q = sym (q .before .before .is-good .ensures) ∙ q .before .if2 .taken
 
 kind : (q : tie.After-kind-of) → (1 ≤ q .kind-of .result) × (q .kind-of .result ≤ 14)
 kind q = rw (q .kind-of .ensures) (piece-kind _ (good q))
 
 -- where the first two branches meet
-toggled : (q : tie.Joined1) → Coloured (q .before .before .args .p) (q .before .before .args .x) (q .before .before .args .n) (q .if1 .q)
+toggled : (q : tie.Joined1) → Coloured (q .before .before .args .p) (q .before .before .args .cell) (q .before .before .args .square) (q .if1 .q)
 toggled q =
     ⊎-elim
     (λ w. w .4 ∙ colour-toggled _ _ _ _ _ _ _ (size (q .before .before) .players) (w .0 .taken) (q .before .single .ensures) (w .1 .ensures) (w .3 .ensures))
@@ -53,7 +54,7 @@ returns : tie.Need-returns
 returns c = let k = c .before .before in let j = k .before .before .before in kind-toggled _ _ _ _ _ _ _ _ (toggled j) (size (j .before .before) .kinds) (good k) (j .before .single .ensures) (k .kind-of .ensures) (c .xor2 .ensures)
 
 returns-2 : tie.Need-returns-2
-returns-2 c = let j = c .before .before in kind-same _ _ _ _ (toggled j) (size (j .before .before) .kinds) (sym (c .before .is-piece .ensures) ∙ c .if2 .left)
+returns-2 c = let j = c .before .before in kind-same _ _ _ _ (toggled j) (size (j .before .before) .kinds) (sym (c .before .is-good .ensures) ∙ c .if2 .left)
 
 pub toggle-spec : {M : Type 1} → statement M
 toggle-spec =

@@ -6,7 +6,7 @@ use Rattle.position.proofs.cells.promoted.Statement.{statement}
 use Rattle.position.proofs.cells.promoted.Tie as tie
 
 returns : tie.Need-returns
-returns c = promoted-piece-value _ _ (ap formGiven (sym (c .before .v .given .1)) ∙ c .before .before .before .promote .ensures)
+returns c = promoted-piece-value _ _ (ap formGiven (sym (c .before .form .given .1)) ∙ c .before .before .before .promote .ensures)
 
 returns-2 : tie.Need-returns-2
 returns-2 c = promoted-piece-value _ _ (ap formGiven (sym (c .enum-told .given .1)) ∙ c .before .before .promote .ensures)

@@ -2,10 +2,10 @@ use Rattle.position.proofs.edits.is_cell.Statement.{statement}
 use Rattle.position.proofs.edits.is_cell.Tie as tie
 
 returns : tie.Need-returns
-returns c = rw (← c .before .before .on-board .ensures, c .before .if1 .taken, c .is-good .ensures)
+returns c = rw (← c .before .before .is-good .ensures, c .before .if1 .taken, c .is-cell .ensures)
 
 returns-2 : tie.Need-returns-2
-returns-2 c = rw (← c .before .on-board .ensures, c .if1 .left)
+returns-2 c = rw (← c .before .is-good .ensures, c .if1 .left)
 
 pub is-cell-spec : {M : Type 1} → statement M
 is-cell-spec = tie.close (tie.spec (λ c κs. tt) (λ c κs. tt) returns returns-2)

@@ -15,7 +15,7 @@ own q = rw (← q .before .is-of .ensures) (q .if1 .left)
 plain : (q : tie.Else2) → leb 9 (kindOf (q .before .before .before .before .args .piece)) ≡ false
 plain q = sym (q .before .is-promoted .ensures) ∙ q .if2 .left
 
-vacant : (q : tie.Else3) → not (eqb (q .before .before .before .before .before .args .t) 0) ≡ false
+vacant : (q : tie.Else3) → not (eqb (q .before .before .before .before .before .args .target) 0) ≡ false
 vacant q = ap not (eq-eqb _ 0 (q .if3 .left))
 
 some : (q : tie.Else4)

@@ -50,7 +50,7 @@ spend-requires c κs = let s = start (c .before) in drop-held (s .args .p) (size
 
 returns-2 : tie.Need-returns-2
 unfolding next
-returns-2 c = let q = c .before .before in let s = start (q .before) in let k = can q in plan-moves _ _ _ _ (planned c) (drop-number _ _ _ _) (drop-fits (s .args .p) (size s) (s .pre .whole) (omega (arith, s .good)) _ _ _ _ k) (rule-passes _ _ (s .pre) _ (sym (number (q .before)) ∙ q .if1 .left) (drop-plays (s .args .p) (size s .board) _ _ _ (k .goal) ∙ drop-carried (s .args .p) (size s) (s .pre .whole) _ _ k))
+returns-2 c = let q = c .before .before in let s = start (q .before) in let k = can q in plan-moves _ _ _ _ (planned c) (drop-number _ _ _ _) (drop-fits (s .args .p) (size s) (s .pre .whole) _ _ _ _ k) (rule-passes _ _ (s .pre) _ (sym (number (q .before)) ∙ q .if1 .left) (drop-plays (s .args .p) (size s .board) _ _ _ (k .goal) ∙ drop-carried (s .args .p) (size s) (s .pre .whole) _ _ k))
 
 pub make-drop-spec : {M : Type 1} → statement M
 make-drop-spec =

@@ -25,8 +25,8 @@ module _ (q : tie.After-known-told) where
   start = q .before .before .before .before .before .before
 
   -- what stands on the from square
-  piece : (q .before .c .given .0 .0 ≡ cellAt (start .args .p .board) (start .args .from)) × (cellAt (start .args .p .board) (start .args .from) ≡ 0 → ⊥)
-  piece = stood-piece _ _ (sym (q .before .before .before .standing .ensures) ∙ q .before .c .given .1)
+  piece : (q .before .piece .given .0 .0 ≡ cellAt (start .args .p .board) (start .args .from)) × (cellAt (start .args .p .board) (start .args .from) ≡ 0 → ⊥)
+  piece = stood-piece _ _ (sym (q .before .before .before .standing .ensures) ∙ q .before .piece .given .1)
 
 module _ (q : tie.After-normal-refusal) where
   abbrev from-start : tie.Start
@@ -91,7 +91,7 @@ hold-requires c κs = let s = from-start (c .before .before .before .before .bef
 
 returns-3 : tie.Need-returns-3
 unfolding next
-returns-3 c = let q = passed (c .before) in let s = from-start (q .before) in let k = can q in plan-moves _ _ _ _ (planned c) (normal-number _ _ _ _ _ _) (normal-fits (s .args .p) (size s) (s .pre .whole) (omega (arith, s .good)) _ _ _ _ _ _ k) (rule-passes _ _ (s .pre) _ (sym (number (q .before)) ∙ q .if1 .left) (normal-plays (s .args .p) (size s .board) _ _ _ _ (k .start) (k .goal) ∙ normal-carried (s .args .p) (size s) (s .pre .whole) _ _ _ k))
+returns-3 c = let q = passed (c .before) in let s = from-start (q .before) in let k = can q in plan-moves _ _ _ _ (planned c) (normal-number _ _ _ _ _ _) (normal-fits (s .args .p) (size s) (s .pre .whole) _ _ _ _ _ _ k) (rule-passes _ _ (s .pre) _ (sym (number (q .before)) ∙ q .if1 .left) (normal-plays (s .args .p) (size s .board) _ _ _ _ (k .start) (k .goal) ∙ normal-carried (s .args .p) (size s) (s .pre .whole) _ _ _ k))
 
 pub make-normal-spec : {M : Type 1} → statement M
 make-normal-spec =

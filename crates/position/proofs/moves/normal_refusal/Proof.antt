@@ -9,20 +9,20 @@ use Rattle.position.proofs.moves.normal_refusal.Statement.{statement}
 use Rattle.position.proofs.moves.normal_refusal.Tie as tie
 
 -- what is known at the start and after each test
-piece : (s : tie.Start) → eqb (s .args .c) 0 ≡ false
-piece s = ne-eqb (s .args .c) 0 (s .pre)
+piece : (s : tie.Start) → eqb (s .args .piece) 0 ≡ false
+piece s = ne-eqb (s .args .piece) 0 (s .pre)
 
-own : (q : tie.Else1) → not (eqb (colourOf (q .before .before .args .c)) (q .before .before .args .side)) ≡ false
+own : (q : tie.Else1) → not (eqb (colourOf (q .before .before .args .piece)) (q .before .before .args .side)) ≡ false
 own q = rw (← q .before .is-of .ensures) (q .if1 .left)
 
-form : (q : tie.Else2) → q .before .before .before .before .args .promote && eqb (promotedPiece (q .before .before .before .before .args .c)) 0 ≡ false
+form : (q : tie.Else2) → q .before .before .before .before .args .promote && eqb (promotedPiece (q .before .before .before .before .args .piece)) 0 ≡ false
 form q = sym (q .before .has-no-form .ensures) ∙ q .if2 .left
 
 other : (q : tie.Else3)
-    → eqb (colourOf (q .before .before .before .before .before .before .args .t)) (q .before .before .before .before .before .before .args .side) ≡ false
+    → eqb (colourOf (q .before .before .before .before .before .before .args .target)) (q .before .before .before .before .before .before .args .side) ≡ false
 other q = sym (q .before .is-of2 .ensures) ∙ q .if3 .left
 
-no-king : (q : tie.Else4) → eqb (kindOf (q .before .before .before .before .before .before .before .before .args .t)) 8 ≡ false
+no-king : (q : tie.Else4) → eqb (kindOf (q .before .before .before .before .before .before .before .before .args .target)) 8 ≡ false
 no-king q = sym (q .before .is-king .ensures) ∙ q .if4 .left
 
 returns : tie.Need-returns

@@ -8,9 +8,9 @@ use Rattle.position.proofs.Asking.{hand-refused, hand-done, hand-number
 use Rattle.position.proofs.position.Position.hand.Statement.{statement}
 use Rattle.position.proofs.position.Position.hand.Tie as tie
 
-module _ (c : tie.After-told) where
-  query : c .told .result ≡ toldQuery (not (goodColour (c .before .before .args .color) && goodHandKind (c .before .before .args .kind))) (c .before .before .args .t1)
-  query = c .told .ensures ∙ ap (λ (b : Bool). toldQuery (not b) (c .before .before .args .t1)) (c .before .is-hand .ensures)
+module _ (c : tie.After-checked) where
+  query : c .checked .result ≡ toldQuery (not (goodColour (c .before .before .args .color) && goodHandKind (c .before .before .args .kind))) (c .before .before .args .t1)
+  query = c .checked .ensures ∙ ap (λ (b : Bool). toldQuery (not b) (c .before .before .args .t1)) (c .before .is-hand .ensures)
 
 module _ (c : tie.Else1) where
   range : (1 ≤ c .before .before .before .before .args .color) × (c .before .before .before .before .args .color ≤ 2) × (1 ≤ c .before .before .before .before .args .kind)

@@ -6,9 +6,9 @@ use Rattle.position.proofs.Asking.{king-refused, king-done}
 use Rattle.position.proofs.position.Position.king_position.Statement.{statement}
 use Rattle.position.proofs.position.Position.king_position.Tie as tie
 
-module _ (c : tie.After-told) where
-  query : c .told .result ≡ toldQuery (not (goodColour (c .before .before .args .color))) (c .before .before .args .self)
-  query = c .told .ensures ∙ ap (λ (b : Bool). toldQuery (not b) (c .before .before .args .self)) (c .before .is-color .ensures)
+module _ (c : tie.After-checked) where
+  query : c .checked .result ≡ toldQuery (not (goodColour (c .before .before .args .color))) (c .before .before .args .self)
+  query = c .checked .ensures ∙ ap (λ (b : Bool). toldQuery (not b) (c .before .before .args .self)) (c .before .is-good .ensures)
 
 returns : tie.Need-returns
 returns c = king-refused _ _ _ (query (c .before .before)) (c .if1 .taken)

@@ -3,7 +3,7 @@ use Rattle.position.proofs.position.Position.make_move.Statement.{state
 use Rattle.position.proofs.position.Position.make_move.Tie as tie
 
 make-plan-requires : tie.Need-make-plan-requires
-make-plan-requires c κs = rw (← c .before .bad-move .ensures) (c .told .ensures)
+make-plan-requires c κs = rw (← c .before .bad-move .ensures) (c .checked .ensures)
 
 store-requires : tie.Need-store-requires
 store-requires c κs = c .make-plan .ensures .fits

@@ -8,9 +8,9 @@ use Rattle.position.proofs.Asking.{done-good, piece-refused, piece-done
 use Rattle.position.proofs.position.Position.piece_at.Statement.{statement}
 use Rattle.position.proofs.position.Position.piece_at.Tie as tie
 
-module _ (c : tie.After-told) where
-  query : c .told .result ≡ toldQuery (not (onBoard 9 (c .before .before .args .square))) (c .before .before .args .self)
-  query = c .told .ensures ∙ ap (λ (b : Bool). toldQuery (not b) (c .before .before .args .self)) (c .before .on-board .ensures)
+module _ (c : tie.After-checked) where
+  query : c .checked .result ≡ toldQuery (not (onBoard 9 (c .before .before .args .square))) (c .before .before .args .self)
+  query = c .checked .ensures ∙ ap (λ (b : Bool). toldQuery (not b) (c .before .before .args .self)) (c .before .is-good .ensures)
 
 returns : tie.Need-returns
 returns c = piece-refused _ _ _ (query (c .before .before)) (c .if1 .taken)
