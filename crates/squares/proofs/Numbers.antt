@@ -2,13 +2,11 @@
 -- rest of what is said of kinds is read off their table, kind by kind.
 use mathlib.Core.Path.{_≡_, refl, sym, ap, _∙_}
 use mathlib.Core.Bool.{Bool, true, false, not, _&&_, _||_, Bool·beq, or-true, true≢false, false≢true}
-use mathlib.Core.Logic.{inl, inr, ⊎-elim}
-use mathlib.Core.List.{[], _∷_}
+use mathlib.Core.Logic.{⊎-elim}
 use Prim.Native.Nat.{ℕ, zero, suc, _+_, _-_, _≤_, _<_}
 use native.Mathlib.Omega.{arith}
 use lib.Dec.{T, eqb, leb, leb→le}
 use lib.ListN.{List·getD-eq-default}
-use types.Run.{OneOf}
 use borrow.Author.Tests.{le-leb, lt-leb, ne-eqb, eqb-true}
 use Rattle.squares.specs.Kinds.{Kind, kinds, kindRow, goodKind, handKind, goodColour, otherColour, colourOf, kindOf, goodPiece, goodCell, promotedPiece}
 use Rattle.squares.proofs.Steps.{in-range, decided}
@@ -26,24 +24,6 @@ kind-low k h = rw (lt-leb 1 k h)
 pub kind-high : (k : ℕ) → 15 ≤ k → goodKind k ≡ false
 unfolding goodKind
 kind-high k h = rw (le-leb 1 k (omega arith), lt-leb k 14 h)
-
--- none of the keys of the eight letters
-neither : (a b k : ℕ) → (OneOf (a ∷ b ∷ []) k → ⊥) → eqb k a || eqb k b ≡ false
-neither a b k f = rw (ne-eqb k a (λ e. f (inl e)), ne-eqb k b (λ e. f (inr e)))
-
-abbrev lettered : ℕ → Bool
-lettered k = (eqb k 1 || eqb k 9) || (eqb k 2 || eqb k 10) || (eqb k 3 || eqb k 11) || (eqb k 4 || eqb k 12) || eqb k 5 || (eqb k 6 || eqb k 13) || (eqb k 7 || eqb k 14) || eqb k 8
-
-pub kind-none : (k : ℕ) → (OneOf (1 ∷ 9 ∷ []) k → ⊥) → (OneOf (2 ∷ 10 ∷ []) k → ⊥) → (OneOf (3 ∷ 11 ∷ []) k → ⊥) → (OneOf (4 ∷ 12 ∷ []) k → ⊥)
-    → (k ≡ 5 → ⊥) → (OneOf (6 ∷ 13 ∷ []) k → ⊥) → (OneOf (7 ∷ 14 ∷ []) k → ⊥) → (k ≡ 8 → ⊥) → goodKind k ≡ false
-unfolding goodKind
-kind-none k p l n s g b r q =
-    ⊎-elim
-    (λ (h : k ≤ 14).
-    rows-truth goodKind lettered 0 15 tt k (omega arith) (omega arith)
-    ∙ rw (neither 1 9 k p, neither 2 10 k l, neither 3 11 k n, neither 4 12 k s, ne-eqb k 5 g, neither 6 13 k b, neither 7 14 k r, ne-eqb k 8 q))
-    (λ (h : 14 < k). kind-high k h)
-    (le-or-lt k 14)
 
 pub colour-good : (c : ℕ) → 1 ≤ c → c < 3 → goodColour c ≡ true
 unfolding goodColour

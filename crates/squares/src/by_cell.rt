@@ -5,6 +5,7 @@ ghost use lib.Dec.{eqb};
 ghost use Rattle.squares.specs.Bit.{word};
 ghost use Rattle.squares.specs.Sets.{tab, cellAt, cellMark, family};
 use crate::bitboard::Bitboard;
+use crate::square::Square;
 
 // The place of a cell number among 32: its own below 31, and the last for all others.
 fn place(cell: u8) -> usize
@@ -14,7 +15,7 @@ fn place(cell: u8) -> usize
 }
 
 // Bit i of each word: whether the cell i after `from` has that place.
-fn cell_words(board: &[u8; 81], from: usize, count: usize) -> [u64; 32]
+fn cell_words(board: &[u8; Square::NUM], from: usize, count: usize) -> [u64; 32]
     requires { ⌜ (from + count ≤ 81) × (count ≤ 63) ⌝ }
     ensures { λ r. ⌜ r ≡ tab (λ k. word (λ n. eqb (cellMark (cellAt (now (board .entry)) n)) k) (from + 1) count) 1 32 ⌝ }
 {
@@ -31,7 +32,7 @@ fn cell_words(board: &[u8; 81], from: usize, count: usize) -> [u64; 32]
 
 impl Bitboard {
     // For each cell number below 31 the squares where it stands, and last the squares of all other numbers.
-    pub fn by_cell(board: &[u8; 81]) -> [Self; 32]
+    pub fn by_cell(board: &[u8; Square::NUM]) -> [Self; 32]
         ensures { λ r. ⌜ r ≡ family cellMark 32 (now (board .entry)) ⌝ }
     {
         let low = cell_words(board, 0, 63);

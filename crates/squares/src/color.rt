@@ -25,9 +25,9 @@ impl Color {
     pub fn flip(color: u8) -> NumberAnswer
         ensures { λ r. ⌜ numberGiven r ≡ otherColourAnswer color ⌝ }
     {
-        match color {
-            1..=2 => NumberAnswer::Number(3 - color),
-            _ => NumberAnswer::BadNumber,
+        if !Self::is_good(color) {
+            return NumberAnswer::BadNumber;
         }
+        NumberAnswer::Number(3 - color)
     }
 }

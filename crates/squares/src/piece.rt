@@ -33,12 +33,12 @@ impl Piece {
     pub fn new(kind: u8, color: u8) -> NumberAnswer
         ensures { λ r. ⌜ numberGiven r ≡ pieceAnswer kind color ⌝ }
     {
-        match kind {
-            1..=14 => match color {
-                1 => NumberAnswer::Number(kind),
-                2 => NumberAnswer::Number(16 + kind),
-                _ => NumberAnswer::BadNumber,
-            },
+        if !PieceKind::is_good(kind) {
+            return NumberAnswer::BadNumber;
+        }
+        match color {
+            1 => NumberAnswer::Number(kind),
+            2 => NumberAnswer::Number(16 + kind),
             _ => NumberAnswer::BadNumber,
         }
     }

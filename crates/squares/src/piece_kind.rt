@@ -1,7 +1,8 @@
 // Kinds of pieces by number: 1 Pawn, 2 Lance, 3 Knight, 4 Silver, 5 Gold, 6 Bishop, 7 Rook, 8 King, 9 to 12 promoted
 // Pawn, Lance, Knight, Silver, 13 promoted Bishop, 14 promoted Rook.
 ghost use mathlib.Core.Path.{_≡_};
-ghost use Rattle.squares.specs.Kinds.{goodKind};
+ghost use Prim.Native.Nat.{_≤_};
+ghost use Rattle.squares.specs.Kinds.{goodKind, kindRow};
 ghost use Rattle.squares.specs.Answers.{numberGiven, formGiven, promotedAnswer, unpromotedAnswer, limitAnswer, letterAnswer, handKindAnswer};
 use crate::answers::FormAnswer;
 use crate::answers::NumberAnswer;
@@ -62,15 +63,26 @@ impl PieceKind {
         ensures { λ r. ⌜ numberGiven r ≡ letterAnswer kind ⌝ }
     {
         match kind {
-            1 | 9 => NumberAnswer::Number(b'P'),
-            2 | 10 => NumberAnswer::Number(b'L'),
-            3 | 11 => NumberAnswer::Number(b'N'),
-            4 | 12 => NumberAnswer::Number(b'S'),
-            5 => NumberAnswer::Number(b'G'),
-            6 | 13 => NumberAnswer::Number(b'B'),
-            7 | 14 => NumberAnswer::Number(b'R'),
-            8 => NumberAnswer::Number(b'K'),
+            1..=8 => NumberAnswer::Number(Self::unpromoted_letter(kind)),
+            9..=12 => NumberAnswer::Number(Self::unpromoted_letter(kind - 8)),
+            13..=14 => NumberAnswer::Number(Self::unpromoted_letter(kind - 7)),
             _ => NumberAnswer::BadNumber,
+        }
+    }
+
+    fn unpromoted_letter(kind: u8) -> u8
+        requires { ⌜ (1 ≤ kind) × (kind ≤ 8) ⌝ }
+        ensures { λ r. ⌜ r ≡ kindRow kind .letter ⌝ }
+    {
+        match kind {
+            1 => b'P',
+            2 => b'L',
+            3 => b'N',
+            4 => b'S',
+            5 => b'G',
+            6 => b'B',
+            7 => b'R',
+            _ => b'K',
         }
     }
 

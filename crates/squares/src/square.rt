@@ -33,28 +33,28 @@ impl Square {
     pub fn file(square: u8) -> NumberAnswer
         ensures { λ r. ⌜ numberGiven r ≡ fileAnswer square ⌝ }
     {
-        match square {
-            1..=81 => NumberAnswer::Number((square - 1) / 9 + 1),
-            _ => NumberAnswer::BadNumber,
+        if !Self::is_good(square) {
+            return NumberAnswer::BadNumber;
         }
+        NumberAnswer::Number((square - 1) / 9 + 1)
     }
 
     pub fn rank(square: u8) -> NumberAnswer
         ensures { λ r. ⌜ numberGiven r ≡ rankAnswer square ⌝ }
     {
-        match square {
-            1..=81 => NumberAnswer::Number((square - 1) % 9 + 1),
-            _ => NumberAnswer::BadNumber,
+        if !Self::is_good(square) {
+            return NumberAnswer::BadNumber;
         }
+        NumberAnswer::Number((square - 1) % 9 + 1)
     }
 
     // The square that the other player sees in its place.
     pub fn flip(square: u8) -> NumberAnswer
         ensures { λ r. ⌜ numberGiven r ≡ flipAnswer square ⌝ }
     {
-        match square {
-            1..=81 => NumberAnswer::Number(82 - square),
-            _ => NumberAnswer::BadNumber,
+        if !Self::is_good(square) {
+            return NumberAnswer::BadNumber;
         }
+        NumberAnswer::Number(82 - square)
     }
 }

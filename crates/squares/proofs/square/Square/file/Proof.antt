@@ -1,9 +1,10 @@
 -- The square is on the board in its range.
+use mathlib.Core.Path.{sym, _∙_}
 use native.Mathlib.Omega.{arith}
+use borrow.Author.Tests.{not-true, not-false}
 use Rattle.squares.specs.Board.{fileOf}
 use Rattle.squares.specs.Answers.{fileAnswer}
-use Rattle.squares.proofs.Steps.{board-on, board-low, board-high}
-use borrow.Author.Needs.{needs}
+use Rattle.squares.proofs.Steps.{board-range}
 use Rattle.squares.proofs.square.Square.file.Statement.{statement}
 use Rattle.squares.proofs.square.Square.file.Tie as tie
 
@@ -11,8 +12,6 @@ pub file-spec : {M : Type 1} → statement M
 unfolding fileAnswer fileOf
 file-spec =
     tie.close
-    (tie.spec
-    (search needs)
-    (λ c. rw (board-on 9 _ (c .before .if1 .left) (omega (arith, c .if2 .taken))))
-    (λ c. rw (board-low 9 _ (c .if1 .taken)))
-    (λ c. rw (board-high 9 _ (c .before .if1 .left) (c .if2 .left))))
+    (tie.spec (λ c κs. tt) (λ c. rw (sym (c .before .is-good .ensures) ∙ not-true _ (c .if1 .taken)))
+    (λ c. omega (arith, board-range 9 _ (sym (c .before .is-good .ensures) ∙ not-false _ (c .if1 .left)))) (λ c. omega (arith, board-range 9 _ (sym (c .before .is-good .ensures) ∙ not-false _ (c .if1 .left))))
+    (λ c. rw (sym (c .before .is-good .ensures) ∙ not-false _ (c .if1 .left))))
