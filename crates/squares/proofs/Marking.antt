@@ -154,14 +154,23 @@ module _ (cells : List ℕ) where
   marks-bad none e bad = rw (e, bad)
 
   -- ---- what is told of the cells
-  pub marks-told : (m : Marks) → m ≡ marksAnswer cells → m .number ≡ 0 → allGood cells ≡ true
-  unfolding marksAnswer
-  marks-told m e z = ⊎-elim (λ g. g) (λ b. absurd (differ (sym z ∙ ap (λ (x : Marks). x .number) e ∙ rw b))) (decided (allGood cells))
+  module _ (m : Marks) (e : m ≡ marksAnswer cells) where
+    pub marks-told : m .number ≡ 0 → allGood cells ≡ true
+    unfolding marksAnswer
+    marks-told z = ⊎-elim (λ g. g) (λ b. absurd (differ (sym z ∙ ap (λ (x : Marks). x .number) e ∙ rw b))) (decided (allGood cells))
 
-  pub marks-refused : (m : Marks) → m ≡ marksAnswer cells → (m .number ≡ 0 → ⊥) → allGood cells ≡ false
-  unfolding marksAnswer
-  marks-refused m e z = ⊎-elim (λ g. absurd (z (ap (λ (x : Marks). x .number) e ∙ rw g))) (λ b. b) (decided (allGood cells))
+    pub marks-refused : (m .number ≡ 0 → ⊥) → allGood cells ≡ false
+    unfolding marksAnswer
+    marks-refused z = ⊎-elim (λ g. absurd (z (ap (λ (x : Marks). x .number) e ∙ rw g))) (λ b. b) (decided (allGood cells))
 
-  pub marks-of-good : allGood cells ≡ true → marksAnswer cells ≡ record { number = 0; players = family colourOf 2 cells; kinds = family kindOf 14 cells }
-  unfolding marksAnswer
-  marks-of-good g = rw g
+    pub marks-number : allGood cells ≡ true → m .number ≡ 0
+    unfolding marksAnswer
+    marks-number g = ap (λ (x : Marks). x .number) e ∙ rw g
+
+    pub marks-players : allGood cells ≡ true → m .players ≡ family colourOf 2 cells
+    unfolding marksAnswer
+    marks-players g = ap (λ (x : Marks). x .players) e ∙ rw g
+
+    pub marks-kinds : allGood cells ≡ true → m .kinds ≡ family kindOf 14 cells
+    unfolding marksAnswer
+    marks-kinds g = ap (λ (x : Marks). x .kinds) e ∙ rw g
