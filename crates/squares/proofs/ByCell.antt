@@ -11,7 +11,8 @@ use mathlib.Core.Logic.{⊎-elim}
 use lib.Dec.{eqb, leb}
 use borrow.Author.Tests.{eq-eqb, ne-eqb, lt-ltb, le-ltb, le-leb, lt-leb}
 use Rattle.squares.specs.Bit.{digit, word}
-use Rattle.squares.specs.Sets.{tab, cellAt, cellMark, setOf, family}
+use Rattle.squares.specs.Sets.{tab, cellAt, setOf, family}
+use Rattle.squares.specs.Inner.{cellMark}
 use Rattle.squares.specs.declared.bitboard.Bitboard.{Bitboard}
 use Rattle.squares.proofs.Bits.{word-lt}
 use Rattle.squares.proofs.Steps.{eqb-same}

@@ -20,7 +20,6 @@ pub use Rattle.squares.proofs.Steps.{step-off, step-zero, step-none, st
 pub use Rattle.squares.proofs.Members.{le-or-lt, has-setOf, setOf-cong, setOf-has, clean-setOf, clean-has, has-off, has-on, has-emptyS}
 pub use Rattle.squares.proofs.Rules.{empty-rule, single-rule, or-rules, and-rules, xor-rules, andnot-rules, not-rule, shift-rule}
 pub use Rattle.squares.proofs.Exact.{exactly-set, set-exactly, exactly-not, exactly-same, exactly-other, exactly-rule, exactly-no-rule}
-pub use Rattle.squares.proofs.ByCell.{by-cell-at, by-cell-last}
 pub use Rattle.squares.proofs.Families.{family-at, family-clean, family-same, family-differs, family-zeros}
 pub use Rattle.squares.proofs.Marking.{all-good, good-all, marks-told, marks-refused, marks-number, marks-players, marks-kinds}
 pub use Rattle.squares.proofs.Tests.{all, all-at, allFrom, rows-truth}

@@ -13,7 +13,8 @@ use borrow.Author.Tests.{eq-eqb, ne-eqb, le-leb, lt-leb, lt-ltb, le-ltb, not-fal
 use Rattle.squares.specs.declared.bitboard.Bitboard.{Bitboard}
 use Rattle.squares.specs.Board.{onBoard}
 use Rattle.squares.specs.Kinds.{goodKind, goodCell, goodPiece, colourOf, kindOf}
-use Rattle.squares.specs.Sets.{setOf, tab, cellAt, family, emptyS, orS, isEmpty, allGood, cellMark}
+use Rattle.squares.specs.Sets.{setOf, tab, cellAt, family, emptyS, orS, isEmpty, allGood}
+use Rattle.squares.specs.Inner.{cellMark}
 use Rattle.squares.specs.Answers.{marksAnswer}
 use Rattle.squares.specs.declared.marks.Marks.{Marks}
 use Rattle.squares.proofs.Lists.{tab-same}

@@ -54,7 +54,7 @@ unfolding goodPiece kindOf
 piece-high c h = rw (lt-leb c 16 (omega arith)) (kind-high (c - 16) (omega arith))
 
 -- a bad piece other than 0 is a bad cell
-pub cell-bad : (c : ℕ) → 1 ≤ c → goodPiece c ≡ false → false ≡ goodCell c
+cell-bad : (c : ℕ) → 1 ≤ c → goodPiece c ≡ false → false ≡ goodCell c
 unfolding goodCell
 cell-bad c l e = rw (ne-eqb c 0 (λ q. omega arith), e)
 

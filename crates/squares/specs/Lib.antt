@@ -4,3 +4,4 @@ pub mod Board
 pub mod Kinds
 pub mod Sets
 pub mod Answers
+pub mod Inner

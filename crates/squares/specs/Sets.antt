@@ -114,7 +114,3 @@ family mark count cells = tab (λ k. setOf (λ n. eqb (mark (cellAt cells n)) k)
 -- "Every cell value is good": of the 81 none is bad
 unfoldable pub allGood : List ℕ → Bool
 allGood cells = eqb (countOf (λ n. not (goodCell (cellAt cells n))) 1 81) 0
-
--- a mark for each cell number: one more than it, and the same for all from 31 on
-unfoldable pub cellMark : ℕ → ℕ
-cellMark c = cond (ltb c 31) (c + 1) 32

@@ -3,7 +3,8 @@ ghost use mathlib.Core.Path.{_≡_};
 ghost use Prim.Native.Nat.{_+_, _≤_, _<_};
 ghost use lib.Dec.{eqb};
 ghost use Rattle.squares.specs.Bit.{word};
-ghost use Rattle.squares.specs.Sets.{tab, cellAt, cellMark, family};
+ghost use Rattle.squares.specs.Sets.{tab, cellAt, family};
+ghost use Rattle.squares.specs.Inner.{cellMark};
 use crate::bitboard::Bitboard;
 use crate::square::Square;
 
@@ -32,7 +33,7 @@ fn cell_words(board: &[u8; Square::NUM], from: usize, count: usize) -> [u64; 32]
 
 impl Bitboard {
     // For each cell number below 31 the squares where it stands, and last the squares of all other numbers.
-    pub fn by_cell(board: &[u8; Square::NUM]) -> [Self; 32]
+    pub(crate) fn by_cell(board: &[u8; Square::NUM]) -> [Self; 32]
         ensures { λ r. ⌜ r ≡ family cellMark 32 (now (board .entry)) ⌝ }
     {
         let low = cell_words(board, 0, 63);

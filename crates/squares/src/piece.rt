@@ -1,7 +1,7 @@
 // Cells and pieces by number: 0 an empty cell, k a black piece of kind k, 16 + k a white one. A piece is a good cell
 // other than 0.
 ghost use mathlib.Core.Path.{_≡_};
-ghost use Rattle.squares.specs.Kinds.{goodCell};
+ghost use Rattle.squares.specs.Kinds.{goodPiece, goodCell};
 ghost use Rattle.squares.specs.Answers.{numberGiven, formGiven, pieceAnswer, kindAnswer, colourAnswer, promotedPieceAnswer, unpromotedPieceAnswer};
 use crate::answers::FormAnswer;
 use crate::answers::NumberAnswer;
@@ -10,23 +10,20 @@ use crate::piece_kind::PieceKind;
 pub struct Piece;
 
 impl Piece {
-    // Whether a cell may hold this number: a piece's, or 0.
-    pub fn is_cell(cell: u8) -> bool
-        ensures { λ r. ⌜ r ≡ goodCell cell ⌝ }
+    pub fn is_good(piece: u8) -> bool
+        ensures { λ r. ⌜ r ≡ goodPiece piece ⌝ }
     {
-        match cell {
-            0..=14 | 17..=30 => true,
+        match piece {
+            1..=14 | 17..=30 => true,
             _ => false,
         }
     }
 
-    pub fn is_good(cell: u8) -> bool
+    // Whether a cell may hold this number: 0, or a piece.
+    pub fn is_cell(cell: u8) -> bool
         ensures { λ r. ⌜ r ≡ goodCell cell ⌝ }
     {
-        match cell {
-            0..=14 | 17..=30 => true,
-            _ => false,
-        }
+        if cell == 0 { true } else { Self::is_good(cell) }
     }
 
     // The piece of a kind and a colour.

@@ -1,22 +1,23 @@
--- Each arm holds for each of its numbers.
-use mathlib.Core.Bool.{true, false}
-use Prim.Native.Nat.{zero-le}
+use mathlib.Core.Path.{sym}
 use native.Mathlib.Omega.{arith}
-use Rattle.squares.specs.Kinds.{goodKind, kindOf, goodPiece, goodCell}
-use Rattle.squares.proofs.Numbers.{piece-high, cell-bad}
-use Rattle.squares.proofs.Tests.{rows-truth}
+use Rattle.squares.proofs.Numbers.{piece-low, piece-gap, piece-high, piece-black, piece-white}
 use Rattle.squares.proofs.piece.Piece.is_good.Statement.{statement}
 use Rattle.squares.proofs.piece.Piece.is_good.Tie as tie
 
-high : tie.Need-returns-2
-high c = cell-bad _ (omega (arith, c .if3 .left)) (piece-high _ (c .if3 .left))
+returns : tie.Need-returns
+returns c = sym (piece-black (c .before .before .args .piece) (omega arith) (omega arith))
+
+returns-2 : tie.Need-returns-2
+returns-2 c = sym (piece-white (c .before .before .before .before .args .piece) (omega arith) (omega arith))
+
+returns-3 : tie.Need-returns-3
+returns-3 c = sym (piece-low (c .before .args .piece) (omega arith))
+
+returns-4 : tie.Need-returns-4
+returns-4 c = sym (piece-gap (c .before .before .before .args .piece) (omega arith) (omega arith))
+
+returns-5 : tie.Need-returns-5
+returns-5 c = sym (piece-high (c .before .before .before .before .args .piece) (omega arith))
 
 pub is-good-spec : {M : Type 1} → statement M
-unfolding goodCell goodPiece kindOf goodKind
-is-good-spec =
-    tie.close
-    (tie.spec
-    (λ c. rows-truth (λ k. false) goodCell 15 2 tt _ (c .before .if1 .left) (c .if2 .taken))
-    high
-    (λ c. rows-truth (λ k. true) goodCell 0 15 tt _ zero-le (c .if1 .taken))
-    (λ c. rows-truth (λ k. true) goodCell 17 14 tt _ (c .before .if2 .left) (c .if3 .taken)))
+is-good-spec = tie.close (tie.spec returns returns-2 returns-3 returns-4 returns-5)
