@@ -31,10 +31,11 @@ impl Marks {
         let mut black = none;
         let mut white = none;
         let mut kinds = [none; PieceKind::NUM];
-        let low = sets[15];
-        let middle = sets[16];
-        let high = sets[31];
-        if any_square(low, middle, high) {
+        // No cell may hold 15, 16, or what is sorted last.
+        let fifteen = sets[15];
+        let sixteen = sets[16];
+        let above = sets[31];
+        if any_square(fifteen, sixteen, above) {
             return Self {
                 number: 2,
                 players: [none; Color::NUM],
@@ -42,6 +43,7 @@ impl Marks {
             };
         }
         for j in 0..PieceKind::NUM {
+            // Kind j + 1: its own number for Black, 16 more for White.
             let of_black = sets[j + 1];
             let of_white = sets[j + 17];
             black = black.or(of_black);
