@@ -26,7 +26,7 @@ use Rattle.position.specs.declared.answers.KingSquare.{KingSquare}
 use Rattle.position.specs.declared.answers.KingSquare.the-variants as King
 use Rattle.position.specs.declared.mv.LastMove.{LastMove}
 use Rattle.position.specs.declared.mv.LastMove.the-variants as Last
-use Rattle.position.proofs.Tidiness.{sound-tidy, player-set}
+use Rattle.position.proofs.Tidiness.{sound-tidy}
 use Rattle.position.proofs.Pieces.{positive}
 use Rattle.position.proofs.Kings.{king-is, king-square}
 use Rattle.position.proofs.Agree.{or-false-both}
@@ -114,9 +114,10 @@ module _ (p : Position) (z : Sized p) (s : sound p ≡ true) where
       ∙ setOf-cong (λ n. eqb (colourOf (cellAt (p .board) n)) (colourOf v) && eqb (kindOf (cellAt (p .board) n)) (kindOf v)) (λ n. eqb (cellAt (p .board) n) v)
       (λ n o. let r = board-range 9 n o in piece-by (cellAt (p .board) n) v (tidy .cells n (r .0) (r .1)) g)
 
-  pub occupied-set : (d e : Bitboard) → orS (getD (p .players) 0 d) (getD (p .players) 1 e) ≡ setOf (λ n. not (eqb (cellAt (p .board) n) 0))
-  occupied-set d e =
-      ap₂ orS (player-set p tidy 0 d (omega arith)) (player-set p tidy 1 e (omega arith))
+  pub occupied-set : orS (markSet (p .players) 1) (markSet (p .players) 2) ≡ setOf (λ n. not (eqb (cellAt (p .board) n) 0))
+  unfolding goodColour
+  occupied-set =
+      ap₂ orS (colour-set 1 refl) (colour-set 2 refl)
       ∙ or-rules (λ n. eqb (colourOf (cellAt (p .board) n)) 1) (λ n. eqb (colourOf (cellAt (p .board) n)) 2)
       ∙ setOf-cong (λ n. eqb (colourOf (cellAt (p .board) n)) 1 || eqb (colourOf (cellAt (p .board) n)) 2) (λ n. not (eqb (cellAt (p .board) n) 0))
       (λ n o. let r = board-range 9 n o in colour-none (cellAt (p .board) n) (tidy .cells n (r .0) (r .1)))

@@ -11,8 +11,8 @@ use borrow.Author.Tests.{eqb-true, eqb-false, ne-eqb, ltb-false, not-false}
 use Rattle.squares.specs.Board.{onBoard, fileOf, rankOf}
 use Rattle.squares.specs.Bit.{digit}
 use Rattle.squares.specs.Kinds.{kindRow, kinds, goodColour, goodCell, goodPiece, goodKind, handKind, colourOf, kindOf}
-use Rattle.squares.specs.Sets.{countOf}
-use Rattle.squares.proofs.Laws.{board-range, decided}
+use Rattle.squares.specs.Sets.{countOf, allGood}
+use Rattle.squares.proofs.Laws.{board-range, decided, all-good}
 use Rattle.position.specs.Machine.{Machine, machine, full, tab, cellAt, noMove, emptyPosition, startRanks, startCells, startPosition}
 use Rattle.position.specs.Sound.{sound, anyBelow, kingWrong, standing, topPly, goodPly, goodLast}
 use Rattle.position.specs.Answers.{firstFact, toldBy, lastMove}
@@ -192,40 +192,26 @@ pub game-plain : (p : Position) → Sized p → sound p ≡ true → (vs : List 
 unfolding machine
 game-plain p s h vs = ap (λ (q : Position). playedGame q vs) (sound-full p s h) ∙ whole-game (machine p) (sound-order p s h) (s .board) (s .hands) vs
 
--- ---- the empty and the start position are sound
-good-cells : (cells : List ℕ) → anyBelow (λ j. not (goodCell (cellAt cells (j + 1)))) 81 ≡ false → (n : ℕ) → onBoard 9 n ≡ true → goodCell (cellAt cells n) ≡ true
-good-cells cells h n o =
-    let b = board-range 9 n o in
-    let x : (n - 1) + 1 ≡ n = omega arith in
-    rw x at (not-false (goodCell (cellAt cells (n - 1 + 1))) (any-each (λ j. not (goodCell (cellAt cells (j + 1)))) 81 (n - 1) h (omega arith)))
-
-few-pieces : (m : Machine)
+-- ---- a machine whose cells, kings, counts, side, ply and last move pass each test of soundness, all of which compute
+pub machine-sound : (m : Machine) (b w : ℕ) → allGood (m .cells) ≡ true → kingWrong (m .cells) 8 b ≡ false → kingWrong (m .cells) 24 w ≡ false
     → anyBelow (λ j. ltb (kindRow (j + 1) .limit) (standing (m .cells) (j + 1) + (getD (m .hands) j 0 + getD (m .hands) (j + 7) 0))) 7 ≡ false
-    → (j : ℕ) → j < 7 → standing (m .cells) (j + 1) + (getD (m .hands) j 0 + getD (m .hands) (j + 7) 0) ≤ kindRow (j + 1) .limit
-few-pieces m h j small =
-    ltb-false _ _ (any-each (λ j. ltb (kindRow (j + 1) .limit) (standing (m .cells) (j + 1) + (getD (m .hands) j 0 + getD (m .hands) (j + 7) 0))) 7 j h small)
-
--- cells that pass each test of soundness, nothing in hand
-module _ (cells : List ℕ) (b w : ℕ) (good : anyBelow (λ j. not (goodCell (cellAt cells (j + 1)))) 81 ≡ false) (black : kingWrong cells 8 b ≡ false) (white : kingWrong cells 24 w ≡ false)
-    (few : anyBelow (λ j. ltb (kindRow (j + 1) .limit) (standing cells (j + 1) + (getD (replicate 14 0) j 0 + getD (replicate 14 0) (j + 7) 0))) 7 ≡ false) where
-  fresh-sound : sound (full (record { cells = cells; hands = replicate 14 0; side = 1; last = noMove; ply = 1 })) ≡ true
-  unfolding goodColour goodPly topPly goodLast
-  fresh-sound =
-      order-sound (record { cells = cells; hands = replicate 14 0; side = 1; last = noMove; ply = 1 })
-      (record {
-        cells = good-cells cells good;
-        black = itself cells 8 b (king-is cells 8 b black);
-        white = itself cells 24 w (king-is cells 24 w white);
-        counts = few-pieces (record { cells = cells; hands = replicate 14 0; side = 1; last = noMove; ply = 1 }) few;
-        side = refl;
-        ply = refl;
-        last = refl;
-      })
+    → goodColour (m .side) ≡ true → goodPly (m .ply) ≡ true → goodLast (m .last) ≡ true → sound (full m) ≡ true
+machine-sound m b w good black white few side ply last =
+    order-sound m (record {
+      cells = λ n o. let r = board-range 9 n o in all-good (m .cells) good n (r .0) (r .1);
+      black = itself (m .cells) 8 b (king-is (m .cells) 8 b black);
+      white = itself (m .cells) 24 w (king-is (m .cells) 24 w white);
+      counts = λ j small.
+          ltb-false _ _ (any-each (λ j. ltb (kindRow (j + 1) .limit) (standing (m .cells) (j + 1) + (getD (m .hands) j 0 + getD (m .hands) (j + 7) 0))) 7 j few small);
+      side = side;
+      ply = ply;
+      last = last;
+    })
 
 pub empty-sound : sound emptyPosition ≡ true
-unfolding emptyPosition anyBelow kingWrong standing countOf digit goodCell goodPiece goodKind kindOf kindRow kinds
-empty-sound = fresh-sound (replicate 81 0) 0 0 refl refl refl refl
+unfolding emptyPosition allGood anyBelow kingWrong standing countOf digit goodCell goodPiece goodKind kindOf kindRow kinds goodColour goodPly topPly goodLast
+empty-sound = machine-sound (record { cells = replicate 81 0; hands = replicate 14 0; side = 1; last = noMove; ply = 1 }) 0 0 refl refl refl refl refl refl refl
 
 pub start-sound : sound startPosition ≡ true
-unfolding startPosition startCells startRanks tab fileOf rankOf anyBelow kingWrong standing countOf digit goodCell goodPiece goodKind kindOf kindRow kinds
-start-sound = fresh-sound startCells 45 37 refl refl refl refl
+unfolding startPosition startCells startRanks tab fileOf rankOf allGood anyBelow kingWrong standing countOf digit goodCell goodPiece goodKind kindOf kindRow kinds goodColour goodPly topPly goodLast
+start-sound = machine-sound (record { cells = startCells; hands = replicate 14 0; side = 1; last = noMove; ply = 1 }) 45 37 refl refl refl refl refl refl refl

@@ -6,6 +6,7 @@ ghost use Rattle.position.specs.Answers.{pieceAtAnswer, colourSetAnswer,
 ghost use Rattle.position.specs.Answers.{sideAnswer, plyAnswer, goodHandKind, handAnswer, kingAt, kingAnswer, lastMove, lastAnswer};
 ghost use Rattle.position.specs.Inner.{markSet, toldSet};
 ghost use Rattle.squares.specs.Kinds.{goodColour, goodKind};
+ghost use Rattle.squares.specs.Sets.{orS};
 use crate::answers::KingSquare;
 use crate::answers::Stands;
 use crate::answers::Told;
@@ -89,6 +90,15 @@ fn player_set(sets: [Bitboard; Color::NUM], color: u8) -> Bitboard
     }
 }
 
+// The squares of both colours.
+fn both_players(sets: [Bitboard; Color::NUM]) -> Bitboard
+    ensures { λ r. ⌜ r ≡ orS (markSet sets 1) (markSet sets 2) ⌝ }
+{
+    let black = player_set(sets, Color::BLACK);
+    let white = player_set(sets, Color::WHITE);
+    black.or(white)
+}
+
 // The set of a kind; the empty one of a number that is no kind.
 fn kind_set(sets: [Bitboard; PieceKind::NUM], kind: u8) -> Bitboard
     ensures { λ r. ⌜ (goodKind kind ≡ true → r ≡ markSet sets kind) ⌝ }
@@ -156,17 +166,15 @@ impl Position {
     pub fn occupied_bitboard(self) -> ToldSet
         ensures { λ r. ⌜ r ≡ occupiedAnswer self ⌝ }
     {
-        let black = self.players[0];
-        let white = self.players[1];
-        told_set(self.soundness(), black.or(white))
+        let sets = self.players;
+        told_set(self.soundness(), both_players(sets))
     }
 
     pub fn vacant_bitboard(self) -> ToldSet
         ensures { λ r. ⌜ r ≡ vacantAnswer self ⌝ }
     {
-        let black = self.players[0];
-        let white = self.players[1];
-        told_set(self.soundness(), black.or(white).not())
+        let sets = self.players;
+        told_set(self.soundness(), both_players(sets).not())
     }
 
     pub fn side_to_move(self) -> ToldNumber

@@ -15,9 +15,9 @@ use Rattle.squares.specs.Kinds.{kinds, kindRow, goodKind, colourOf, kindOf, goo
 use Rattle.squares.proofs.Laws.{all-at, board-on, le-or-lt, piece-high, cell-piece}
 use Rattle.position.specs.declared.position.Position.{Position}
 use Rattle.position.specs.Machine.{machine, cellAt}
-use Rattle.position.specs.Sound.{sound, standing}
+use Rattle.position.specs.Sound.{topPly, sound, standing}
 use Rattle.position.specs.Answers.{handAt}
-use Rattle.position.proofs.Laws.{Sized, sound-order}
+use Rattle.position.proofs.Laws.{Sized, sound-order, ply-range}
 use Rattle.sfen.specs.Text.{shogi, letterOf, kindText, pieceText, run, rankText, rankCells, ranks, laterText, ranksText, boardText, sideByte, numberText, countText, handText, orDash, handsText, text, positionText}
 use Rattle.sfen.specs.Inner.{place}
 use Rattle.sfen.proofs.Cases.{number-places, hands-both}
@@ -239,9 +239,9 @@ module _ (p : Position) (z : Sized p) (s : sound p ≡ true) where
   limit j n h e = rw (standing-sum (p .board) (j + 1), e) at (sound-order p z s .counts j h)
 
   -- "The text is never longer than 168 bytes."
-  pub text-bound : p .ply < 65536 → length (positionText p) ≤ 136
-  unfolding positionText kindRow kinds
-  text-bound small =
+  pub text-bound : length (positionText p) ≤ 136
+  unfolding positionText kindRow kinds topPly machine
+  text-bound =
       let k1 = limit 0 18 (lit< tt) refl in
       let k2 = limit 1 4 (lit< tt) refl in
       let k3 = limit 2 4 (lit< tt) refl in
@@ -252,7 +252,7 @@ module _ (p : Position) (z : Sized p) (s : sound p ≡ true) where
       let b = held-black (p .hands) in
       let w = held-white (p .hands) in
       let t = text-length (p .board) (p .side) (p .hands) (p .ply) in
-      let n = number-five (p .ply) (omega arith) in
+      let n = number-five (p .ply) (omega (arith, ply-range (p .ply) (sound-order p z s .ply))) in
       let c = board-bound in
       ⊎-elim (λ (d : length (handsText shogi (p .hands)) ≤ 1). omega arith)
       (λ (d : length (handsText shogi (p .hands)) ≤ heldIn (shogi .held) (p .hands) 1 + heldIn (shogi .held) (p .hands) 2). omega arith)

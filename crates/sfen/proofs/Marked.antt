@@ -9,8 +9,8 @@ use lib.Dec.{eqb}
 use lib.ListN.{replicate, set}
 use Rattle.squares.specs.Bit.{odd, bit, digit, word}
 use Rattle.squares.specs.Board.{onSide, onBoard, squareAt, fileOf, rankOf, flipTo, fileStep, rankStep, step}
-use Rattle.squares.specs.Kinds.{kindRow, kinds, goodPiece, goodKind, handKind, otherColour, colourOf, kindOf, promotedPiece, pieceOf}
-use Rattle.squares.specs.Sets.{has, setOf, emptyS, notS, countOf, size, isEmpty, flipS, firstOf, smallest, withoutS, shiftS}
+use Rattle.squares.specs.Kinds.{kindRow, kinds, goodColour, goodCell, goodPiece, goodKind, handKind, otherColour, colourOf, kindOf, promotedPiece, pieceOf}
+use Rattle.squares.specs.Sets.{has, setOf, emptyS, notS, countOf, size, isEmpty, flipS, firstOf, smallest, withoutS, shiftS, allGood}
 use Rattle.squares.specs.Answers.{popAnswer}
 use Rattle.squares.specs.declared.bitboard.Bitboard.{Bitboard}
 use Rattle.squares.specs.declared.bitboard.Direction.the-variants.{Down, Up, Left, Right}
@@ -18,22 +18,23 @@ use Rattle.position.specs.declared.mv.Move.{Move}
 use Rattle.position.specs.declared.mv.Move.the-variants.{Normal, Drop}
 use Rattle.position.specs.declared.answers.Answer.{Answer}
 use Rattle.position.specs.Machine.{Machine, machine, full, family, tab, noMove, startRanks, startCells, startPosition}
+use Rattle.position.specs.Sound.{anyBelow, kingWrong, standing, topPly, goodPly, goodLast, sound}
 use Rattle.position.specs.Answers.{firstFact, handAt}
 use Rattle.position.specs.Moves.{badMove, normalFacts, dropFacts, ruleFacts, arriving, held, moved, next, movePlayed}
 use Rattle.position.specs.Games.{plainNumber, plainNext, plainAnswer}
-use Rattle.position.proofs.Laws.{Sized, plays-plain, start-sound}
+use Rattle.position.proofs.Laws.{Sized, plays-plain, machine-sound, start-sound}
 use Rattle.sfen.specs.Text.{shogi, letterOf, kindText, pieceText, run, rankText, down, rankCells, ranks, laterText, ranksText, boardText, sideByte, decimal, numberText, countText, handText, orDash, handsText, text, positionText}
 
 -- the set of the listed squares
-among : List ℕ → ℕ → Bool
+pub among : List ℕ → ℕ → Bool
 among [] n = false
 among (m ∷ ms) n = eqb n m || among ms n
 
-squares : List ℕ → Bitboard
+pub squares : List ℕ → Bitboard
 squares ms = setOf (among ms)
 
 -- the bytes of a text in ASCII
-bytes : String → List ℕ
+pub bytes : String → List ℕ
 bytes ε = []
 bytes (c ▸ s) = code c ∷ bytes s
 
@@ -45,7 +46,7 @@ abbrev fromStart : Move → ℕ × List ℕ
 fromStart v = shown (movePlayed startPosition v)
 
 -- "no pieces on board, Black holds a rook and 2 pawns, White 10 pawns, White to move, ply 7"
-pawns : Machine
+pub pawns : Machine
 pawns =
     record {
       cells = replicate 81 0;
@@ -54,6 +55,10 @@ pawns =
       last = noMove;
       ply = 7;
     }
+
+pawns-sound : sound (full pawns) ≡ true
+unfolding pawns handAt allGood anyBelow kingWrong standing countOf digit goodCell goodPiece goodKind kindOf kindRow kinds goodColour goodPly topPly goodLast
+pawns-sound = machine-sound pawns 0 0 refl refl refl refl refl refl refl
 
 -- 5E to 5D, 3C to 3D, 5I to 5H promoting, 5I to 5I, 5I to 5A, a black pawn dropped on 5G and on 5E
 abbrev refusals : List Move
@@ -73,7 +78,7 @@ numbers (v ∷ vs) = ap₂ (λ (n : ℕ) (ns : List ℕ). n ∷ ns) (ap (λ (a :
 
 -- ---- the table. 1A 1, 2A 10, 2B 11, 2I 18, 3C 21, 3D 22, 5A 37, 5D 40, 5E 41, 5G 43, 5H 44, 5I 45, 7F 60, 7G 61, 7I 63,
 -- 8A 64, 8H 71, 8I 72, 9A 73; a black pawn is 1
-marked :
+pub marked :
     -- M1
     (flipS (squares (64 ∷ [])) ≡ squares (18 ∷ []))
     -- M2, M3
@@ -97,7 +102,8 @@ marked :
     × (fromStart (Normal 61 60 false) ≡ (0, bytes "lnsgkgsnl/1r5b1/ppppppppp/9/9/2P6/PP1PPPPPP/1B5R1/LNSGKGSNL w - 2"))
     -- M10
     × (fromStart (Normal 71 11 true) ≡ (0, bytes "lnsgkgsnl/1r5+B1/ppppppppp/9/9/9/PPPPPPPPP/7R1/LNSGKGSNL w B 2"))
-    -- M11
+    -- M11, and its position is sound
+    × (sound (full pawns) ≡ true)
     × (positionText (full pawns) ≡ bytes "9/9/9/9/9/9/9/9/9 w R2P10p 7")
     -- M12
     × (map (λ v. movePlayed startPosition v .told .number) refusals ≡ 3 ∷ 4 ∷ 5 ∷ 6 ∷ 7 ∷ 9 ∷ 10 ∷ [])
@@ -118,6 +124,7 @@ marked = (
   refl,
   ap shown (plain (Normal 61 60 false)),
   ap shown (plain (Normal 71 11 true)),
+  pawns-sound,
   refl,
   numbers refusals,
 )

@@ -1,5 +1,5 @@
 -- What holds of the writer as it is defined: its numbers, and room that is always enough.
-use Prim.Native.Nat.{ℕ, _≤_, _<_}
+use Prim.Native.Nat.{ℕ, _≤_}
 use native.Mathlib.Omega.{arith}
 use mathlib.Core.Path.{_≡_, refl, ap}
 use mathlib.Core.Bool.{true}
@@ -39,6 +39,6 @@ module _ (p : Position) (bytes : List ℕ) where
   write-keeps d = (rw (ne-eqb (firstFact (writeFacts p bytes)) 0 d), rw (ne-eqb (firstFact (writeFacts p bytes)) 0 d))
 
 -- ---- 136 bytes hold every sound position's text
-pub always-fits : (p : Position) (bytes : List ℕ) → Sized p → sound p ≡ true → p .ply < 65536 → 136 ≤ length bytes → textAnswer p bytes .told .number ≡ 0
-always-fits p bytes z s small room =
-    ap (λ (a : TextAnswer). a .told .number) (fitting-written p bytes s (omega (arith, text-bound p z s small)) .0)
+pub always-fits : (p : Position) (bytes : List ℕ) → Sized p → sound p ≡ true → 136 ≤ length bytes → textAnswer p bytes .told .number ≡ 0
+always-fits p bytes z s room =
+    ap (λ (a : TextAnswer). a .told .number) (fitting-written p bytes s (omega (arith, text-bound p z s)) .0)

@@ -21,7 +21,7 @@ passes q = sound-passes _ _ (q .before .before .soundness .ensures) (q .if1 .lef
 fits : (q : tie.Else1) → length (positionText (q .before .before .before .before .args .t1)) ≤ 168
 fits q =
     let s = q .before .before .before .before in
-    omega (arith, text-bound (s .args .t1) (size s) (passes q) (omega (arith, s .good)))
+    omega (arith, text-bound (s .args .t1) (size s) (passes q))
 
 returns : tie.Need-returns
 returns c = let t = c .before .before in unsound-refused (t .before .before .args .t1) (t .soundness .result) (t .soundness .ensures) (t .before .before .args .out .now) (c .if1 .taken)

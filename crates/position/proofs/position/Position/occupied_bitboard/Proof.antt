@@ -1,5 +1,4 @@
 use mathlib.Core.Path.{refl, _∙_}
-use native.Mathlib.Omega.{arith}
 use Rattle.position.specs.Answers.{occupiedAnswer}
 use Rattle.position.proofs.Sizes.{sized}
 use Rattle.position.proofs.Tidiness.{told-query}
@@ -12,9 +11,9 @@ unfolding occupiedAnswer
 returns c =
     let o = c .before in
     let t = o .before in
-    let s = t .before .before .before in
+    let s = t .before .before in
     c .told-set .ensures
-    ∙ set-told _ _ _ (t .soundness .ensures ∙ told-query _ _ refl) _ _ (λ g h. o .or .ensures ∙ occupied-set (s .args .t1) (sized _ _ (s .good .0)) h _ _)
+    ∙ set-told _ _ _ (t .soundness .ensures ∙ told-query _ _ refl) _ _ (λ g h. o .both-players .ensures ∙ occupied-set (s .args .self) (sized _ _ (s .good .0)) h)
 
 pub occupied-bitboard-spec : {M : Type 1} → statement M
-occupied-bitboard-spec = tie.close (tie.spec (λ c. omega arith) (λ c. omega arith) (λ c κs. tt) (λ c κs. tt) (λ c κs. tt) returns)
+occupied-bitboard-spec = tie.close (tie.spec (λ c κs. tt) (λ c κs. tt) (λ c κs. tt) returns)

@@ -1,5 +1,4 @@
 use mathlib.Core.Path.{refl, ap, _∙_}
-use native.Mathlib.Omega.{arith}
 use Rattle.squares.specs.Sets.{notS}
 use Rattle.position.specs.Answers.{vacantAnswer}
 use Rattle.position.proofs.Sizes.{sized}
@@ -13,10 +12,10 @@ unfolding vacantAnswer
 returns c =
     let o = c .before .before in
     let t = o .before in
-    let s = t .before .before .before in
+    let s = t .before .before in
     c .told-set .ensures
     ∙ set-told _ _ _ (t .soundness .ensures ∙ told-query _ _ refl) _ _ (λ g h.
-    c .before .not .ensures ∙ ap notS (o .or .ensures ∙ occupied-set (s .args .t1) (sized _ _ (s .good .0)) h _ _) ∙ vacant-set (s .args .t1))
+    c .before .not .ensures ∙ ap notS (o .both-players .ensures ∙ occupied-set (s .args .self) (sized _ _ (s .good .0)) h) ∙ vacant-set (s .args .self))
 
 pub vacant-bitboard-spec : {M : Type 1} → statement M
-vacant-bitboard-spec = tie.close (tie.spec (λ c. omega arith) (λ c. omega arith) (λ c κs. tt) (λ c κs. tt) (λ c κs. tt) (λ c κs. tt) returns)
+vacant-bitboard-spec = tie.close (tie.spec (λ c κs. tt) (λ c κs. tt) (λ c κs. tt) (λ c κs. tt) returns)
