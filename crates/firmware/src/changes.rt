@@ -1,8 +1,8 @@
-// Moves and edits of a lent position, in place: `Left` says what the call by value answers, and that a refusal leaves every field.
+// Moves and edits of a lent position, in place: `Leaves` says what the call by value answers, and that a refusal leaves every field.
 ghost use mathlib.Core.Path.{_≡_};
 ghost use Rattle.position.specs.Moves.{movePlayed};
 ghost use Rattle.position.specs.Edits.{cellEdited, handEdited, sideEdited, plyEdited};
-ghost use Rattle.lent.specs.InPlace.{Left};
+ghost use Rattle.lent.specs.InPlace.{Leaves};
 ghost use Rattle.firmware.specs.Shown.{stepShown};
 use position::Answer;
 use position::Move;
@@ -56,7 +56,7 @@ fn step_drop(p: Position, piece: u8, to: u8) -> Answer
 
 #[no_mangle]
 pub extern "C" fn pulfredan_make_normal(p: &mut Position, from: u8, to: u8, promote: bool) -> Told
-    ensures { λ r. ⌜ Left (movePlayed (now (p .entry)) (Move.Normal from to promote)) (now (p .entry)) r (now (p .exit)) ⌝ }
+    ensures { λ r. ⌜ Leaves (movePlayed (now (p .entry)) (Move.Normal from to promote)) (now (p .entry)) r (now (p .exit)) ⌝ }
 {
     let r = make_normal(*p, from, to, promote);
     *p = r.position;
@@ -65,7 +65,7 @@ pub extern "C" fn pulfredan_make_normal(p: &mut Position, from: u8, to: u8, prom
 
 #[no_mangle]
 pub extern "C" fn pulfredan_make_drop(p: &mut Position, piece: u8, to: u8) -> Told
-    ensures { λ r. ⌜ Left (movePlayed (now (p .entry)) (Move.Drop piece to)) (now (p .entry)) r (now (p .exit)) ⌝ }
+    ensures { λ r. ⌜ Leaves (movePlayed (now (p .entry)) (Move.Drop piece to)) (now (p .entry)) r (now (p .exit)) ⌝ }
 {
     let r = make_drop(*p, piece, to);
     *p = r.position;
@@ -74,7 +74,7 @@ pub extern "C" fn pulfredan_make_drop(p: &mut Position, piece: u8, to: u8) -> To
 
 #[no_mangle]
 pub extern "C" fn pulfredan_step_normal(p: &mut Position, from: u8, to: u8, promote: bool) -> Told
-    ensures { λ r. ⌜ Left (stepShown (now (p .entry)) (Move.Normal from to promote)) (now (p .entry)) r (now (p .exit)) ⌝ }
+    ensures { λ r. ⌜ Leaves (stepShown (now (p .entry)) (Move.Normal from to promote)) (now (p .entry)) r (now (p .exit)) ⌝ }
 {
     let r = step_normal(*p, from, to, promote);
     *p = r.position;
@@ -83,7 +83,7 @@ pub extern "C" fn pulfredan_step_normal(p: &mut Position, from: u8, to: u8, prom
 
 #[no_mangle]
 pub extern "C" fn pulfredan_step_drop(p: &mut Position, piece: u8, to: u8) -> Told
-    ensures { λ r. ⌜ Left (stepShown (now (p .entry)) (Move.Drop piece to)) (now (p .entry)) r (now (p .exit)) ⌝ }
+    ensures { λ r. ⌜ Leaves (stepShown (now (p .entry)) (Move.Drop piece to)) (now (p .entry)) r (now (p .exit)) ⌝ }
 {
     let r = step_drop(*p, piece, to);
     *p = r.position;
@@ -92,7 +92,7 @@ pub extern "C" fn pulfredan_step_drop(p: &mut Position, piece: u8, to: u8) -> To
 
 #[no_mangle]
 pub extern "C" fn pulfredan_piece_set(p: &mut Position, square: u8, cell: u8) -> Told
-    ensures { λ r. ⌜ Left (cellEdited (now (p .entry)) square cell) (now (p .entry)) r (now (p .exit)) ⌝ }
+    ensures { λ r. ⌜ Leaves (cellEdited (now (p .entry)) square cell) (now (p .entry)) r (now (p .exit)) ⌝ }
 {
     let r = (*p).piece_set(square, cell);
     *p = r.position;
@@ -101,7 +101,7 @@ pub extern "C" fn pulfredan_piece_set(p: &mut Position, square: u8, cell: u8) ->
 
 #[no_mangle]
 pub extern "C" fn pulfredan_hand_set(p: &mut Position, color: u8, kind: u8, count: u8) -> Told
-    ensures { λ r. ⌜ Left (handEdited (now (p .entry)) color kind count) (now (p .entry)) r (now (p .exit)) ⌝ }
+    ensures { λ r. ⌜ Leaves (handEdited (now (p .entry)) color kind count) (now (p .entry)) r (now (p .exit)) ⌝ }
 {
     let r = (*p).hand_set(color, kind, count);
     *p = r.position;
@@ -110,7 +110,7 @@ pub extern "C" fn pulfredan_hand_set(p: &mut Position, color: u8, kind: u8, coun
 
 #[no_mangle]
 pub extern "C" fn pulfredan_side_to_move_set(p: &mut Position, color: u8) -> Told
-    ensures { λ r. ⌜ Left (sideEdited (now (p .entry)) color) (now (p .entry)) r (now (p .exit)) ⌝ }
+    ensures { λ r. ⌜ Leaves (sideEdited (now (p .entry)) color) (now (p .entry)) r (now (p .exit)) ⌝ }
 {
     let r = (*p).side_to_move_set(color);
     *p = r.position;
@@ -119,7 +119,7 @@ pub extern "C" fn pulfredan_side_to_move_set(p: &mut Position, color: u8) -> Tol
 
 #[no_mangle]
 pub extern "C" fn pulfredan_ply_set(p: &mut Position, ply: u16) -> Told
-    ensures { λ r. ⌜ Left (plyEdited (now (p .entry)) ply) (now (p .entry)) r (now (p .exit)) ⌝ }
+    ensures { λ r. ⌜ Leaves (plyEdited (now (p .entry)) ply) (now (p .entry)) r (now (p .exit)) ⌝ }
 {
     let r = (*p).ply_set(ply);
     *p = r.position;

@@ -1,6 +1,6 @@
 // The position lent by its owner and changed in place: a thin entry over the move by value.
 ghost use mathlib.Core.Path.{_≡_};
-ghost use Rattle.lent.specs.InPlace.{Left};
+ghost use Rattle.lent.specs.InPlace.{Leaves};
 ghost use Rattle.position.specs.Moves.{movePlayed};
 use position::Answer;
 use position::Move;
@@ -8,7 +8,7 @@ use position::Position;
 use position::Told;
 
 pub fn make_move_in_place(p: &mut Position, m: Move) -> Told
-    ensures { λ r. ⌜ Left (movePlayed (now (p .entry)) m) (now (p .entry)) r (now (p .exit)) ⌝ }
+    ensures { λ r. ⌜ Leaves (movePlayed (now (p .entry)) m) (now (p .entry)) r (now (p .exit)) ⌝ }
 {
     let r = (*p).make_move(m);
     *p = r.position;

@@ -42,7 +42,7 @@ use Rattle.position.specs.declared.answers.Told.{Told}
 use Rattle.position.specs.declared.answers.Answer.{Answer}
 use Rattle.position.specs.declared.mv.Move.{Move}
 use Rattle.position.specs.Moves.{movePlayed}
-use Rattle.lent.specs.InPlace.{Left}
+use Rattle.lent.specs.InPlace.{Leaves}
 use Rattle.position.proofs.position.Position as T
 use Rattle.position.proofs.position.Position.Laws as T′
 use Rattle.position.proofs.answers.Answer as S
@@ -81,7 +81,7 @@ module _ {M : Type 1} (𝓤 : URA M) (H : Heap 𝓤) (A : Atoms 𝓤) (W : Given
   answer-is : (k : Told) (z : Position) → Is (row told-arg) k (told-arg .val k ∷ []) → Is T.the-row z (vals z) → Is S.the-row (answer k z) (LL.vals S.the-type S′.the-laws (answer k z))
   answer-is k z fits is = LL.owes S.the-type S′.the-laws (answer k z) (is, (fits, tt))
 
-  exits : (k : Told) (z : Position) → Left (movePlayed h m) h k z → Is (row told-arg) k (told-arg .val k ∷ []) → Is T.the-row z (vals z) → ent 𝓤 (emp 𝓤) (Post (LL.val S.the-type S′.the-laws (answer k z)))
+  exits : (k : Told) (z : Position) → Leaves (movePlayed h m) h k z → Is (row told-arg) k (told-arg .val k ∷ []) → Is T.the-row z (vals z) → ent 𝓤 (emp 𝓤) (Post (LL.val S.the-type S′.the-laws (answer k z)))
   exits k z e fits is =
       qed W [] ∵
       suffices ! _ (ends-at 𝓤 H A f.ended stayed (f.clauses 𝓤 H A at-mem run) W ((tt, tt, tt, args, at), tt) (LL.val S.the-type S′.the-laws (answer k z)) (answer k z) (tt, (tt, tt)) (tt, (tt, tt))) $
@@ -121,8 +121,8 @@ module _ {M : Type 1} (𝓤 : URA M) (H : Heap 𝓤) (A : Atoms 𝓤) (W : Given
         calls-at ! fm (Entry 𝓤 H A at-mem run) known (to-g l₃ ν γ) (and-then ! (load ! (from ! (stop !)) (look ! 4 refl)) (and-then ! (load ! (from ! (stop !)) (look ! 9 refl)) (no-more !))) (λ w.
         use1 W (later (some (λ (k : Told). ((‵ (flft (ν ∷ []) fullShare) ⊛ ‵ ftrue) ⊛ ‵ (row told-arg .own k (w ∷ []))) ⊛ raw (ensured 𝓤 H A g.ended (g.clauses 𝓤 H A at-mem run) (ν ∷ [], tt) (x l₃ γ, (m, tt)) tt k)))) (id⊢ 𝓤 _) $ await ! tt $ pick ! (λ k.
         -- what g ensures, at some last position
-        split ! $ move ! (1 ∷ []) $ use1 W (some (λ (zs : Position × (Unit {0} × Unit {0})). ‵ (lasts g.ended (ν ∷ [], tt) (x l₃ γ, (m, tt)) zs) ⊛ raw (fact 𝓤 (Left (movePlayed h m) h k (zs .0))))) (id⊢ 𝓤 _) $ pick ! (λ zs.
-        split ! $ move ! (1 ∷ []) $ heard ! (Left (movePlayed h m) h k (zs .0)) (λ e. fsplit ! $ move ! (2 ∷ []) $ split ! $ move ! (1 ∷ []) $ facts ! (row told-arg) (Is (row told-arg)) (shows 𝓤 H A (row told-arg)) k (w ∷ []) (λ is.
+        split ! $ move ! (1 ∷ []) $ use1 W (some (λ (zs : Position × (Unit {0} × Unit {0})). ‵ (lasts g.ended (ν ∷ [], tt) (x l₃ γ, (m, tt)) zs) ⊛ raw (fact 𝓤 (Leaves (movePlayed h m) h k (zs .0))))) (id⊢ 𝓤 _) $ pick ! (λ zs.
+        split ! $ move ! (1 ∷ []) $ heard ! (Leaves (movePlayed h m) h k (zs .0)) (λ e. fsplit ! $ move ! (2 ∷ []) $ split ! $ move ! (1 ∷ []) $ facts ! (row told-arg) (Is (row told-arg)) (shows 𝓤 H A (row told-arg)) k (w ∷ []) (λ is.
         -- [the token and true; the last position; true; what the lender keeps; _6; …; _5; …; _4; …; …; _2; …; _1; …; _0; …; …]
         land ! (from ! (stop !)) (init ! 8 refl (told-lawful .typed-at 𝓤 H A W k _ is)) $ rewrite ! 8 (λ (u : Val). ‵ (fat fullShare (told-arg .ty) l₄ 0 u)) (ap only (told-lawful .tells k _ is)) refl $
         -- the lifetime is ended, and the local comes back at that position
