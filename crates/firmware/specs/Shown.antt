@@ -1,15 +1,11 @@
 -- The answers as C sees them, each from the answer of the call below: the same number, and the same values.
 use Prim.Native.Nat.{ℕ}
-use Rattle.squares.specs.Answers.{NumberValue, SetValue, TruthValue, PopValue}
+use mathlib.Core.Bool.{cond}
+use Rattle.squares.specs.Answers.{NumberValue, FormValue, SetValue, TruthValue, PopValue}
 use Rattle.position.specs.Machine.{noMove}
-use Rattle.position.specs.Moves.{numbersOf}
-use Rattle.position.specs.Steps.{stepped}
-use Rattle.position.specs.declared.mv.MoveNumbers.{MoveNumbers}
-use Rattle.position.specs.declared.mv.LastMove.{LastMove}
-use Rattle.position.specs.declared.mv.LastMove.the-variants as Last
-use Rattle.position.specs.declared.mv.Move.{Move}
+use Rattle.position.specs.Sound.{sound}
+use Rattle.position.specs.Answers.{soundnessTold}
 use Rattle.position.specs.declared.position.Position.{Position}
-use Rattle.position.specs.declared.answers.Answer.{Answer}
 use Rattle.position.specs.declared.answers.NumberAnswer.{NumberAnswer}
 use Rattle.position.specs.declared.answers.Stands.{Stands}
 use Rattle.position.specs.declared.answers.Stands.the-variants as Stand
@@ -17,7 +13,6 @@ use Rattle.position.specs.declared.answers.PieceAnswer.{PieceAnswer}
 use Rattle.position.specs.declared.answers.KingSquare.{KingSquare}
 use Rattle.position.specs.declared.answers.KingSquare.the-variants as King
 use Rattle.position.specs.declared.answers.KingAnswer.{KingAnswer}
-use Rattle.position.specs.declared.answers.LastAnswer.{LastAnswer}
 use Rattle.firmware.specs.declared.answers.CNumber.{CNumber}
 use Rattle.firmware.specs.declared.answers.CSet.{CSet}
 use Rattle.firmware.specs.declared.answers.CTruth.{CTruth}
@@ -25,11 +20,15 @@ use Rattle.firmware.specs.declared.answers.CPattern.{CPattern}
 use Rattle.firmware.specs.declared.answers.CPop.{CPop}
 use Rattle.firmware.specs.declared.answers.CLast.{CLast}
 
--- ---- of calls on sets
+-- ---- of calls on squares, kinds, pieces and sets
 
 -- a number or a square
 abbrev pub numberShown : NumberValue → CNumber
 numberShown v = record { number = v .number; value = v .value }
+
+-- a kind or a piece: a kind is 1 to 14, a piece a cell "other than 0", so that 0 says "nothing"
+abbrev pub formShown : FormValue → CNumber
+formShown v = record { number = v .number; value = v .value }
 
 -- a set
 abbrev pub setShown : SetValue → CSet
@@ -67,15 +66,6 @@ kingNumber (King.At n) = n
 abbrev pub kingShown : KingAnswer → NumberAnswer
 kingShown a = record { told = a .told; value = kingNumber (a .king) }
 
--- a last move as a position stores it
-abbrev pub lastNumbers : LastMove → MoveNumbers
-lastNumbers Last.Nothing = noMove
-lastNumbers (Last.Was m) = numbersOf m
-
--- the answer of last_move
-abbrev pub lastShown : LastAnswer → CLast
-lastShown a = record { told = a .told; last = lastNumbers (a .last) }
-
--- ---- of the step, which asks nothing and refuses nothing
-abbrev pub stepShown : Position → Move → Answer
-stepShown p m = record { told = record { number = 0; square = 0 }; position = stepped p m }
+-- last_move: a position stores "none" as four zeros, and a move in the numbers that C sees; a refused call carries "nothing"
+unfoldable pub lastShown : Position → CLast
+lastShown p = record { told = soundnessTold p; last = cond (sound p) (p .last) noMove }

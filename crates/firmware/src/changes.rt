@@ -3,91 +3,25 @@ ghost use mathlib.Core.Path.{_≡_};
 ghost use Rattle.position.specs.Moves.{movePlayed};
 ghost use Rattle.position.specs.Edits.{cellEdited, handEdited, sideEdited, plyEdited};
 ghost use Rattle.lent.specs.InPlace.{Leaves};
-ghost use Rattle.firmware.specs.Shown.{stepShown};
-use position::Answer;
+use lent::make_move_in_place;
 use position::Move;
 use position::Position;
 use position::Told;
-
-// ---- a move from its numbers
-
-fn make_normal(p: Position, from: u8, to: u8, promote: bool) -> Answer
-    ensures { λ r. ⌜ r ≡ movePlayed p (Move.Normal from to promote) ⌝ }
-{
-    let m = Move::Normal { from, to, promote };
-    p.make_move(m)
-}
-
-fn make_drop(p: Position, piece: u8, to: u8) -> Answer
-    ensures { λ r. ⌜ r ≡ movePlayed p (Move.Drop piece to) ⌝ }
-{
-    let m = Move::Drop { piece, to };
-    p.make_move(m)
-}
-
-// ---- a step from its numbers
-
-fn step_by(p: Position, m: Move) -> Answer
-    ensures { λ r. ⌜ r ≡ stepShown p m ⌝ }
-{
-    let told = Told {
-        number: 0,
-        square: 0,
-    };
-    let position = p.step(m);
-    Answer { told, position }
-}
-
-fn step_normal(p: Position, from: u8, to: u8, promote: bool) -> Answer
-    ensures { λ r. ⌜ r ≡ stepShown p (Move.Normal from to promote) ⌝ }
-{
-    let played = Move::Normal { from, to, promote };
-    step_by(p, played)
-}
-
-fn step_drop(p: Position, piece: u8, to: u8) -> Answer
-    ensures { λ r. ⌜ r ≡ stepShown p (Move.Drop piece to) ⌝ }
-{
-    let played = Move::Drop { piece, to };
-    step_by(p, played)
-}
-
-// ---- in place
 
 #[no_mangle]
 pub extern "C" fn pulfredan_make_normal(p: &mut Position, from: u8, to: u8, promote: bool) -> Told
     ensures { λ r. ⌜ Leaves (movePlayed (now (p .entry)) (Move.Normal from to promote)) (now (p .entry)) r (now (p .exit)) ⌝ }
 {
-    let r = make_normal(*p, from, to, promote);
-    *p = r.position;
-    r.told
+    let m = Move::Normal { from, to, promote };
+    make_move_in_place(p, m)
 }
 
 #[no_mangle]
 pub extern "C" fn pulfredan_make_drop(p: &mut Position, piece: u8, to: u8) -> Told
     ensures { λ r. ⌜ Leaves (movePlayed (now (p .entry)) (Move.Drop piece to)) (now (p .entry)) r (now (p .exit)) ⌝ }
 {
-    let r = make_drop(*p, piece, to);
-    *p = r.position;
-    r.told
-}
-
-#[no_mangle]
-pub extern "C" fn pulfredan_step_normal(p: &mut Position, from: u8, to: u8, promote: bool) -> Told
-    ensures { λ r. ⌜ Leaves (stepShown (now (p .entry)) (Move.Normal from to promote)) (now (p .entry)) r (now (p .exit)) ⌝ }
-{
-    let r = step_normal(*p, from, to, promote);
-    *p = r.position;
-    r.told
-}
-
-#[no_mangle]
-pub extern "C" fn pulfredan_step_drop(p: &mut Position, piece: u8, to: u8) -> Told
-    ensures { λ r. ⌜ Leaves (stepShown (now (p .entry)) (Move.Drop piece to)) (now (p .entry)) r (now (p .exit)) ⌝ }
-{
-    let r = step_drop(*p, piece, to);
-    *p = r.position;
-    r.told
+    let m = Move::Drop { piece, to };
+    make_move_in_place(p, m)
 }
 
 #[no_mangle]

@@ -2,11 +2,10 @@
 ghost use mathlib.Core.Path.{_≡_};
 ghost use Rattle.position.specs.Machine.{emptyPosition, startPosition};
 ghost use Rattle.position.specs.Answers.{soundnessTold, pieceAtAnswer, colourSetAnswer, kindSetAnswer, pieceSetAnswer, occupiedAnswer, vacantAnswer};
-ghost use Rattle.position.specs.Answers.{sideAnswer, plyAnswer, handAnswer, kingAnswer, lastAnswer};
-ghost use Rattle.firmware.specs.Shown.{pieceNumber, pieceShown, kingNumber, kingShown, lastNumbers, lastShown};
+ghost use Rattle.position.specs.Answers.{sideAnswer, plyAnswer, handAnswer, kingAnswer};
+ghost use Rattle.firmware.specs.Shown.{pieceNumber, pieceShown, kingNumber, kingShown, lastShown};
 use crate::answers::CLast;
 use position::KingSquare;
-use position::LastMove;
 use position::MoveNumbers;
 use position::NumberAnswer;
 use position::PlyAnswer;
@@ -69,23 +68,17 @@ fn king_number(king: KingSquare) -> u8
     }
 }
 
+// The four numbers as the position stores them: of a sound one they are a move's, or none.
 fn last_move(p: Position) -> CLast
-    ensures { λ r. ⌜ r ≡ lastShown (lastAnswer p) ⌝ }
+    ensures { λ r. ⌜ r ≡ lastShown p ⌝ }
 {
-    let found = p.last_move();
-    let told = found.told;
-    let last = found.last;
-    let last = last_numbers(last);
-    CLast { told, last }
-}
-
-fn last_numbers(last: LastMove) -> MoveNumbers
-    ensures { λ r. ⌜ r ≡ lastNumbers last ⌝ }
-{
-    match last {
-        LastMove::Nothing => MoveNumbers::none(),
-        LastMove::Was(m) => MoveNumbers::of(m),
+    let told = p.soundness();
+    if told.number != 0 {
+        let last = MoveNumbers::none();
+        return CLast { told, last };
     }
+    let last = p.last;
+    CLast { told, last }
 }
 
 // ---- of a lent position
@@ -169,7 +162,7 @@ pub extern "C" fn pulfredan_king_position(p: &Position, color: u8) -> NumberAnsw
 
 #[no_mangle]
 pub extern "C" fn pulfredan_last_move(p: &Position) -> CLast
-    ensures { λ r. ⌜ r ≡ lastShown (lastAnswer (now (p .entry))) ⌝ }
+    ensures { λ r. ⌜ r ≡ lastShown (now (p .entry)) ⌝ }
 {
     last_move(*p)
 }

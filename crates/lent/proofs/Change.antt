@@ -75,7 +75,7 @@ module _ (X1 : Arg) where
     abbrev g-clauses1 : (Position → X1 .D → Answer → Type 0) → Clauses 𝓤 g-ended1
     g-clauses1 P κs a = record { ghost = Unit {0}; requires = λ _. emp 𝓤; ensures = λ _ r e. fact 𝓤 (P (a .0) (a .1 .0) r) }
 
-    abbrev f-clauses1 : (Position → X1 .D → told-arg .D → Position → Type 0) → Clauses 𝓤 f-ended1
+    abbrev pub f-clauses1 : (Position → X1 .D → told-arg .D → Position → Type 0) → Clauses 𝓤 f-ended1
     f-clauses1 Q κs a = record { ghost = Unit {0}; requires = λ _. emp 𝓤; ensures = λ _ r e. fact 𝓤 (Q (now (a .0)) (a .1 .0) r (now (e .0))) }
 
     abbrev pub triple1 : (H : Heap 𝓤) (A : Atoms 𝓤) → (Position → X1 .D → Answer → Type 0) → Contract 𝓤
@@ -185,7 +185,7 @@ module _ (X1 : Arg) (X2 : Arg) where
     abbrev g-clauses2 : (Position → X1 .D → X2 .D → Answer → Type 0) → Clauses 𝓤 g-ended2
     g-clauses2 P κs a = record { ghost = Unit {0}; requires = λ _. emp 𝓤; ensures = λ _ r e. fact 𝓤 (P (a .0) (a .1 .0) (a .1 .1 .0) r) }
 
-    abbrev f-clauses2 : (Position → X1 .D → X2 .D → told-arg .D → Position → Type 0) → Clauses 𝓤 f-ended2
+    abbrev pub f-clauses2 : (Position → X1 .D → X2 .D → told-arg .D → Position → Type 0) → Clauses 𝓤 f-ended2
     f-clauses2 Q κs a = record { ghost = Unit {0}; requires = λ _. emp 𝓤; ensures = λ _ r e. fact 𝓤 (Q (now (a .0)) (a .1 .0) (a .1 .1 .0) r (now (e .0))) }
 
     abbrev pub triple2 : (H : Heap 𝓤) (A : Atoms 𝓤) → (Position → X1 .D → X2 .D → Answer → Type 0) → Contract 𝓤
@@ -295,7 +295,7 @@ module _ (X1 : Arg) (X2 : Arg) (X3 : Arg) where
     abbrev g-clauses3 : (Position → X1 .D → X2 .D → X3 .D → Answer → Type 0) → Clauses 𝓤 g-ended3
     g-clauses3 P κs a = record { ghost = Unit {0}; requires = λ _. emp 𝓤; ensures = λ _ r e. fact 𝓤 (P (a .0) (a .1 .0) (a .1 .1 .0) (a .1 .1 .1 .0) r) }
 
-    abbrev f-clauses3 : (Position → X1 .D → X2 .D → X3 .D → told-arg .D → Position → Type 0) → Clauses 𝓤 f-ended3
+    abbrev pub f-clauses3 : (Position → X1 .D → X2 .D → X3 .D → told-arg .D → Position → Type 0) → Clauses 𝓤 f-ended3
     f-clauses3 Q κs a = record { ghost = Unit {0}; requires = λ _. emp 𝓤; ensures = λ _ r e. fact 𝓤 (Q (now (a .0)) (a .1 .0) (a .1 .1 .0) (a .1 .1 .1 .0) r (now (e .0))) }
 
     abbrev pub triple3 : (H : Heap 𝓤) (A : Atoms 𝓤) → (Position → X1 .D → X2 .D → X3 .D → Answer → Type 0) → Contract 𝓤

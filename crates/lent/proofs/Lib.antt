@@ -2,5 +2,6 @@
 mod Args
 mod Change
 mod Look
+mod Hand
 mod Ends
 pub mod Laws
