@@ -2,6 +2,7 @@
 // bytes only. Each call is a thin one over a call of the crates below, and keeps its whole promise.
 mod answers;
 mod changes;
+mod kinds;
 mod queries;
 mod sets;
 mod text;

@@ -1,7 +1,7 @@
 // Squares, and sets of squares by value.
 ghost use mathlib.Core.Path.{_≡_};
-ghost use Rattle.squares.specs.Sets.{emptyS, orS, andS, xorS, andnotS, notS, size, flipS};
-ghost use Rattle.squares.specs.Answers.{numberGiven, setGiven, squareAnswer, fileAnswer, rankAnswer, singleAnswer, containsAnswer};
+ghost use Rattle.squares.specs.Sets.{emptyS, orS, andS, xorS, andnotS, notS, size, isEmpty, flipS};
+ghost use Rattle.squares.specs.Answers.{squareAnswer, fileAnswer, rankAnswer, flipAnswer, singleAnswer, containsAnswer};
 ghost use Rattle.squares.specs.Answers.{fromFileAnswer, getFileAnswer, popAnswer, shiftAnswer};
 ghost use Rattle.squares.specs.declared.bitboard.Direction.the-variants.{Down, Up, Left, Right};
 ghost use Rattle.firmware.specs.Shown.{numberShown, setShown, truthShown, patternShown, popShown};
@@ -10,37 +10,13 @@ use crate::answers::CPattern;
 use crate::answers::CPop;
 use crate::answers::CSet;
 use crate::answers::CTruth;
+use crate::answers::number;
+use crate::answers::set;
 use squares::Bitboard;
-use squares::NumberAnswer;
 use squares::PatternAnswer;
 use squares::PopAnswer;
-use squares::SetAnswer;
 use squares::Square;
 use squares::TruthAnswer;
-
-fn number(a: NumberAnswer) -> CNumber
-    ensures { λ r. ⌜ r ≡ numberShown (numberGiven a) ⌝ }
-{
-    match a {
-        NumberAnswer::Number(value) => CNumber { number: 0, value },
-        NumberAnswer::BadNumber => CNumber {
-            number: 2,
-            value: 0,
-        },
-    }
-}
-
-fn set(a: SetAnswer) -> CSet
-    ensures { λ r. ⌜ r ≡ setShown (setGiven a) ⌝ }
-{
-    match a {
-        SetAnswer::Set(set) => CSet { number: 0, set },
-        SetAnswer::BadNumber => {
-            let set = Bitboard::empty();
-            CSet { number: 2, set }
-        }
-    }
-}
 
 // ---- squares by number
 
@@ -65,6 +41,13 @@ pub extern "C" fn pulfredan_square_rank(square: u8) -> CNumber
     number(Square::rank(square))
 }
 
+#[no_mangle]
+pub extern "C" fn pulfredan_square_flip(square: u8) -> CNumber
+    ensures { λ r. ⌜ r ≡ numberShown (flipAnswer square) ⌝ }
+{
+    number(Square::flip(square))
+}
+
 // ---- sets
 
 #[no_mangle]
@@ -86,6 +69,13 @@ pub extern "C" fn pulfredan_set_count(s: Bitboard) -> u8
     ensures { λ r. ⌜ r ≡ size s ⌝ }
 {
     s.count()
+}
+
+#[no_mangle]
+pub extern "C" fn pulfredan_set_is_empty(s: Bitboard) -> bool
+    ensures { λ r. ⌜ r ≡ isEmpty s ⌝ }
+{
+    s.is_empty()
 }
 
 #[no_mangle]

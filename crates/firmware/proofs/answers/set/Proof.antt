@@ -1,6 +1,6 @@
 use borrow.Author.Needs.{needs}
-use Rattle.firmware.proofs.sets.set.Statement.{statement}
-use Rattle.firmware.proofs.sets.set.Tie as tie
+use Rattle.firmware.proofs.answers.set.Statement.{statement}
+use Rattle.firmware.proofs.answers.set.Tie as tie
 
 returns : tie.Need-returns
 returns c = rw (c .before .a .given .1)

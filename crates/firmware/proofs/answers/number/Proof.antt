@@ -1,6 +1,6 @@
 use borrow.Author.Needs.{needs}
-use Rattle.firmware.proofs.sets.number.Statement.{statement}
-use Rattle.firmware.proofs.sets.number.Tie as tie
+use Rattle.firmware.proofs.answers.number.Statement.{statement}
+use Rattle.firmware.proofs.answers.number.Tie as tie
 
 returns : tie.Need-returns
 returns c = rw (c .before .a .given .1)
