@@ -21,8 +21,6 @@ pub fn make_move_through(p: Position, m: Move) -> Answer
 {
     let mut lent = p;
     let told = make_move_in_place(&mut lent, m);
-    Answer {
-        told,
-        position: lent,
-    }
+    let position = lent;
+    Answer { told, position }
 }

@@ -108,17 +108,17 @@ module _ {M : Type 1} (𝓤 : URA M) (H : Heap 𝓤) (A : Atoms 𝓤) (W : Given
         alloc1 ! (λ l₀. alloc1 ! (λ l₁. alloc1 ! (λ l₂. alloc1 ! (λ l₃. alloc1 ! (λ l₄. alloc1 ! (λ l₅. alloc1 ! (λ l₆. alloc0 ! $ params1 ! $
         pass1 ! (init ! 10 refl (LL.lawful T.the-type T′.the-laws 𝓤 H A W .typed h _ h-is .0)) $ pass1 ! (init ! 8 refl (move-lawful .typed-at 𝓤 H A W m _ m-is)) $ pass0 ! $
         -- [_6; …; _5; …; _4; …; _3; …; _2; …; _1; …; _0; …; true; what the parameters own]
-        -- _3 = _1;  _5 = &_3
+        -- _3 = _1;  _6 = &_3
         assigns ! (of-opd ! (load ! (from ! (stop !)) (look ! 10 refl))) (from ! (stop !)) (init ! 6 refl (LL.lawful T.the-type T′.the-laws 𝓤 H A W .typed h _ h-is .0)) $
-        assigns ! (addr ! (from ! (stop !))) (from ! (stop !)) (init ! 2 refl (tt, tt)) $
+        assigns ! (addr ! (from ! (stop !))) (from ! (stop !)) (init ! 0 refl (tt, tt)) $
         -- a lifetime is made, and the local is lent for it
         lft-new ! tt (λ ν. move ! (7 ∷ []) $ owned ! T.the-row (Is T.the-row) (LL.makes T.the-type T′.the-plain 𝓤 H A) h _ h-is $ move ! (1 ∷ 0 ∷ []) $
         use2 W (‵ (partAt T.the-row fullShare h l₃ 0)) (part-in 𝓤 H A W T.the-row refl fullShare h l₃ 0 (LL.val T.the-type T′.the-laws h)) $
         use1 W (later (some (λ (γ : GName). ‵ (MutRef (named 0) (ν ∷ []) T.the-row .own (x l₃ γ) (vptr l₃ 0 ∷ [])) ⊛ ‵ (flent (ν ∷ []) (Body (mem T.the-row) l₃ 0 γ))))) (lends-ref 𝓤 H A W T.the-row (named 0) (ν ∷ []) h l₃ 0) $ await ! tt $ pick ! (λ γ. split ! $
-        -- _4 = g(_5, _2)
+        -- _4 = g(_6, _2)
         move ! (2 ∷ 0 ∷ []) $ use2 W (raw (Entry 𝓤 H A at-mem run .pre (to-g l₃ ν γ))) (goes-g l₃ ν γ) $
         -- [what g asks; what the lender keeps; _6; …; _5; …; _4; …; …; _2; …; _1; …; _0; …; …]
-        calls-at ! fm (Entry 𝓤 H A at-mem run) known (to-g l₃ ν γ) (and-then ! (load ! (from ! (stop !)) (look ! 4 refl)) (and-then ! (load ! (from ! (stop !)) (look ! 9 refl)) (no-more !))) (λ w.
+        calls-at ! fm (Entry 𝓤 H A at-mem run) known (to-g l₃ ν γ) (and-then ! (load ! (from ! (stop !)) (look ! 2 refl)) (and-then ! (load ! (from ! (stop !)) (look ! 9 refl)) (no-more !))) (λ w.
         use1 W (later (some (λ (k : Told). ((‵ (flft (ν ∷ []) fullShare) ⊛ ‵ ftrue) ⊛ ‵ (row told-arg .own k (w ∷ []))) ⊛ raw (ensured 𝓤 H A g.ended (g.clauses 𝓤 H A at-mem run) (ν ∷ [], tt) (x l₃ γ, (m, tt)) tt k)))) (id⊢ 𝓤 _) $ await ! tt $ pick ! (λ k.
         -- what g ensures, at some last position
         split ! $ move ! (1 ∷ []) $ use1 W (some (λ (zs : Position × (Unit {0} × Unit {0})). ‵ (lasts g.ended (ν ∷ [], tt) (x l₃ γ, (m, tt)) zs) ⊛ raw (fact 𝓤 (Leaves (movePlayed h m) h k (zs .0))))) (id⊢ 𝓤 _) $ pick ! (λ zs.
@@ -130,9 +130,9 @@ module _ {M : Type 1} (𝓤 : URA M) (H : Heap 𝓤) (A : Atoms 𝓤) (W : Given
         use1 W (some (λ (v : Val). ‵ (fat fullShare T′.mir l₃ 0 v) ⊛ ‵ (T.the-row .own (zs .0) (v ∷ [])))) (part-out 𝓤 H A W T.the-row refl fullShare (zs .0) l₃ 0) $ pick ! (λ v. split ! $ move ! (1 ∷ []) $
         facts ! T.the-row (Is T.the-row) (shows 𝓤 H A T.the-row) (zs .0) (v ∷ []) (λ was. rewrite ! 0 (λ (u : Val). ‵ (fat fullShare T′.mir l₃ 0 u)) (ap only (LL.tells T.the-type T′.the-laws (zs .0) _ was)) refl $
         -- [_3; true; true; _6; …; _5; …; _4; …; …; _2; …; _1; …; _0; …; …]
-        -- _6 = _3;  _0 = Answer { _6, _4 }
-        assigns ! (of-opd ! (load ! (from ! (stop !)) (look ! 0 refl))) (from ! (stop !)) (init ! 3 refl (LL.lawful T.the-type T′.the-laws 𝓤 H A W .typed (zs .0) _ (is-at position-lawful (zs .0) v was) .0)) $
-        assigns ! (agg ! (and-then ! (load ! (from ! (stop !)) (look ! 3 refl)) (and-then ! (load ! (from ! (stop !)) (look ! 7 refl)) (no-more !)))) (from ! (stop !))
+        -- _5 = _3;  _0 = Answer { _5, _4 }
+        assigns ! (of-opd ! (load ! (from ! (stop !)) (look ! 0 refl))) (from ! (stop !)) (init ! 5 refl (LL.lawful T.the-type T′.the-laws 𝓤 H A W .typed (zs .0) _ (is-at position-lawful (zs .0) v was) .0)) $
+        assigns ! (agg ! (and-then ! (load ! (from ! (stop !)) (look ! 5 refl)) (and-then ! (load ! (from ! (stop !)) (look ! 7 refl)) (no-more !)))) (from ! (stop !))
         (init ! 14 refl (LL.lawful S.the-type S′.the-laws 𝓤 H A W .typed (answer k (zs .0)) _ (answer-is k (zs .0) (is-at told-lawful k w is) (is-at position-lawful (zs .0) v was)) .0)) $
         returns ! (look ! 14 refl) $ forget ! 0 refl $ forget ! 3 refl $ forget ! 5 refl $ forget ! 7 refl $ forget ! 10 refl $ forget ! 12 refl $ forget ! 14 refl $
         move ! (14 ∷ 15 ∷ []) $ free1 ! $ move ! (12 ∷ 13 ∷ []) $ free1 ! $ move ! (10 ∷ 11 ∷ []) $ free1 ! $ move ! (0 ∷ 9 ∷ []) $ free1 ! $ move ! (6 ∷ 7 ∷ []) $ free1 ! $ move ! (4 ∷ 5 ∷ []) $ free1 ! $ move ! (2 ∷ 3 ∷ []) $ free1 ! $ free0 ! $
