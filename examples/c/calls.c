@@ -56,15 +56,43 @@ static void sets(void) {
     number("file", pulfredan_square_file(A8));
     number("rank", pulfredan_square_rank(I7));
     number("file of 82", pulfredan_square_file(82));
+    number("flipped", pulfredan_square_flip(A8));
+    number("flipped 82", pulfredan_square_flip(82));
+    printf("empty: %d, %d\n", pulfredan_set_is_empty(stray), pulfredan_set_is_empty(full));
+}
+
+static void kinds(void) {
+    for (uint8_t kind = PULFREDAN_PAWN; kind <= PULFREDAN_PRO_ROOK; kind++)
+        printf("kind %u: %c, limit %u, promoted %u, unpromoted %u, in hand %u\n", kind, pulfredan_kind_letter(kind).value,
+               pulfredan_kind_limit(kind).value, pulfredan_kind_promote(kind).value, pulfredan_kind_unpromote(kind).value,
+               pulfredan_kind_hand_kind(kind).value);
+    number("letter of 15", pulfredan_kind_letter(15));
+    number("limit of 0", pulfredan_kind_limit(0));
+    number("15 promoted", pulfredan_kind_promote(15));
+    number("15 unpromoted", pulfredan_kind_unpromote(15));
+    number("15 in hand", pulfredan_kind_hand_kind(15));
+    number("other colour", pulfredan_color_flip(PULFREDAN_COLOR_BLACK));
+    number("other than 3", pulfredan_color_flip(3));
+    number("white rook", pulfredan_piece_new(PULFREDAN_ROOK, PULFREDAN_COLOR_WHITE));
+    number("rook of 3", pulfredan_piece_new(PULFREDAN_ROOK, 3));
+    number("its kind", pulfredan_piece_kind(PULFREDAN_WHITE(PULFREDAN_ROOK)));
+    number("its colour", pulfredan_piece_color(PULFREDAN_WHITE(PULFREDAN_ROOK)));
+    number("promoted", pulfredan_piece_promote(PULFREDAN_WHITE(PULFREDAN_ROOK)));
+    number("gold promoted", pulfredan_piece_promote(PULFREDAN_BLACK(PULFREDAN_GOLD)));
+    number("unpromoted", pulfredan_piece_unpromote(PULFREDAN_WHITE(PULFREDAN_PRO_ROOK)));
+    number("kind of 0", pulfredan_piece_kind(0));
+    number("colour of 16", pulfredan_piece_color(16));
+    number("31 promoted", pulfredan_piece_promote(31));
+    number("0 unpromoted", pulfredan_piece_unpromote(0));
 }
 
 static void positions(void) {
     pulfredan_position board = pulfredan_startpos(), bare = pulfredan_empty();
-    told_number("piece on 5I", pulfredan_piece_at(&board, 45));
-    told_number("piece on 5E", pulfredan_piece_at(&board, 41));
+    told_number("piece on 5I", pulfredan_piece_at(&board, PULFREDAN_SQUARE(5, 9)));
+    told_number("piece on 5E", pulfredan_piece_at(&board, PULFREDAN_SQUARE(5, 5)));
     told_number("piece on 82", pulfredan_piece_at(&board, 82));
-    told_set("white", pulfredan_player_bitboard(&board, 2));
-    told_set("white king", pulfredan_piece_bitboard(&board, 24));
+    told_set("white", pulfredan_player_bitboard(&board, PULFREDAN_COLOR_WHITE));
+    told_set("white king", pulfredan_piece_bitboard(&board, PULFREDAN_WHITE(PULFREDAN_KING)));
     told_set("piece 0", pulfredan_piece_bitboard(&board, 0));
     told_set("vacant", pulfredan_vacant_bitboard(&board));
     told_number("king", pulfredan_king_position(&board, 2));
@@ -72,12 +100,6 @@ static void positions(void) {
     told_number("hand of kings", pulfredan_hand(&board, 1, 8));
     pulfredan_told_move last = pulfredan_last_move(&board);
     printf("last move: %u, %u %u %u %u\n", last.told.number, last.last.tag, last.last.a, last.last.b, last.last.promote);
-    pulfredan_position stepped = pulfredan_startpos();
-    told("8H to 2B, promoting", pulfredan_step_normal(&stepped, 71, 11, true));
-    told("3C to 3D", pulfredan_step_normal(&stepped, 21, 22, false));
-    told("bishop dropped on 5E", pulfredan_step_drop(&stepped, 6, 41));
-    told_number("piece on 5E", pulfredan_piece_at(&stepped, 41));
-    told_number("bishops in hand", pulfredan_hand(&stepped, 1, 6));
     told("side", pulfredan_side_to_move_set(&board, 2));
     told_number("side", pulfredan_side_to_move(&board));
     told("ply 0", pulfredan_ply_set(&board, 0));
@@ -93,6 +115,7 @@ static void positions(void) {
 
 int main(void) {
     sets();
+    kinds();
     positions();
     return 0;
 }

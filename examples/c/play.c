@@ -20,7 +20,7 @@ static void lamps(const char *name, pulfredan_set set) {
 }
 
 static void send(const pulfredan_position *board, size_t room) {
-    uint8_t line[168] = "-";
+    uint8_t line[PULFREDAN_TEXT_MAX] = "-";
     pulfredan_told_length wrote = pulfredan_write_sfen(board, line, room);
     printf("text in %u bytes: %u, %u bytes, %.*s\n", (unsigned)room, wrote.told.number, (unsigned)wrote.length,
            wrote.length == 0 ? 1 : (int)wrote.length, (const char *)line);
@@ -41,35 +41,43 @@ static void play(pulfredan_position *board, uint8_t from, uint8_t to, bool promo
 
 int main(void) {
     pulfredan_position board = pulfredan_startpos();
-    send(&board, 168);
+    send(&board, PULFREDAN_TEXT_MAX);
 
+    /* A game begins: two pawns make way, Black's bishop takes White's and promotes, a silver takes it, a bishop is dropped. */
     play(&board, square(7, 'G'), square(7, 'F'), false);
-    send(&board, 168);
-
-    board = pulfredan_startpos();
+    send(&board, PULFREDAN_TEXT_MAX);
+    play(&board, square(3, 'C'), square(3, 'D'), false);
     play(&board, square(8, 'H'), square(2, 'B'), true);
-    send(&board, 168);
-    printf("in hand: %u\n", pulfredan_hand(&board, 1, 6).value);
-    lamps("promoted bishops", pulfredan_piece_kind_bitboard(&board, 13).set);
+    send(&board, PULFREDAN_TEXT_MAX);
+    printf("in hand: %u\n", pulfredan_hand(&board, PULFREDAN_COLOR_BLACK, PULFREDAN_BISHOP).value);
+    lamps("promoted bishops", pulfredan_piece_kind_bitboard(&board, PULFREDAN_PRO_BISHOP).set);
     pulfredan_move last = pulfredan_last_move(&board).last;
     printf("last move: %u %u %u %u\n", last.tag, last.a, last.b, last.promote);
 
-    /* Refused: the square is empty, the piece is Black's; then a buffer one byte short. */
+    /* Refused: the square is empty, the piece is Black's. */
     play(&board, square(5, 'E'), square(5, 'D'), false);
     play(&board, square(5, 'I'), square(5, 'H'), false);
+
+    play(&board, square(3, 'A'), square(2, 'B'), false);
+    printf("drop: %u\n", pulfredan_make_drop(&board, PULFREDAN_BLACK(PULFREDAN_BISHOP), square(5, 'E')).number);
+    send(&board, PULFREDAN_TEXT_MAX);
+
+    /* A buffer that just fits, and one that is a byte short. */
     board = pulfredan_startpos();
     send(&board, 63);
     send(&board, 62);
 
-    /* The hand of a drop, given by an edit after a pawn went from the board; and a byte that no call wrote. */
+    /* A pawn goes from the board to the hand by edits; a full set has no second one. It is dropped, in a file that has none. */
     printf("edits: %u", pulfredan_piece_set(&board, square(7, 'G'), 0).number);
-    printf(" %u", pulfredan_hand_set(&board, 1, 1, 1).number);
-    printf(" %u\n", pulfredan_hand_set(&board, 1, 1, 2).number);
-    printf("drop: %u\n", pulfredan_make_drop(&board, 1, square(5, 'E')).number);
-    send(&board, 168);
+    printf(" %u", pulfredan_hand_set(&board, PULFREDAN_COLOR_BLACK, PULFREDAN_PAWN, 1).number);
+    printf(" %u\n", pulfredan_hand_set(&board, PULFREDAN_COLOR_BLACK, PULFREDAN_PAWN, 2).number);
+    printf("drop: %u\n", pulfredan_make_drop(&board, PULFREDAN_BLACK(PULFREDAN_PAWN), square(7, 'E')).number);
+    send(&board, PULFREDAN_TEXT_MAX);
+
+    /* A byte that no call wrote. */
     board.board[square(5, 'E') - 1] = 15;
     pulfredan_told found = pulfredan_soundness(&board);
     printf("soundness: %u, square %u\n", found.number, found.square);
-    send(&board, 168);
+    send(&board, PULFREDAN_TEXT_MAX);
     return 0;
 }

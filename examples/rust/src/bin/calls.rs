@@ -1,111 +1,149 @@
 //! The same as examples/c/calls.c: the calls that play does not make, with document 01's marked examples of sets.
-use pulfredan::{NumberResult, Position, Set, SetResult, Square, Told, ToldNumber, ToldSet};
+use pulfredan::{Color, Kind, Move, Piece, Position, Refused, Set, Square};
 
-fn set(name: &str, number: u8, s: Set) {
+fn set(name: &str, s: Set) {
+    squares(name, 0, s);
+}
+
+fn squares(name: &str, number: u8, s: Set) {
     print!("{name}: {number}, {} squares:", s.count());
-    let mut next = s.pop();
-    while next.square != 0 {
-        print!(" {}", next.square);
-        next = next.set.pop();
+    for square in s {
+        print!(" {square}");
     }
     println!();
 }
 
-fn result(name: &str, r: SetResult) {
-    set(name, r.number, r.set);
+fn refused<T>(answer: &Result<T, Refused>) -> Refused {
+    answer.as_ref().err().copied().unwrap_or(Refused { number: 0, square: 0 })
 }
 
-fn told_set(name: &str, r: ToldSet) {
-    set(name, r.told.number, r.set);
+fn result(name: &str, r: Result<Set, Refused>) {
+    squares(name, refused(&r).number, r.unwrap_or_default());
 }
 
-fn number(name: &str, r: NumberResult) {
-    println!("{name}: {}, {}", r.number, r.value);
+fn number(name: &str, r: Result<u8, Refused>) {
+    println!("{name}: {}, {}", refused(&r).number, r.unwrap_or(0));
 }
 
-fn told(name: &str, t: Told) {
-    println!("{name}: {}, square {}", t.number, t.square);
+fn form(name: &str, r: Result<Option<u8>, Refused>) {
+    number(name, r.map(Option::unwrap_or_default));
 }
 
-fn told_number(name: &str, r: ToldNumber) {
-    println!("{name}: {}, square {}, {}", r.told.number, r.told.square, r.value);
+fn told(name: &str, r: Result<(), Refused>) {
+    println!("{name}: {}, square {}", refused(&r).number, refused(&r).square);
 }
 
-fn one(square: u8) -> Set {
-    Set::single(square).set
+fn told_number(name: &str, r: Result<u8, Refused>) {
+    println!("{name}: {}, square {}, {}", refused(&r).number, refused(&r).square, r.unwrap_or(0));
 }
 
-fn sets() {
+fn told_form(name: &str, r: Result<Option<u8>, Refused>) {
+    told_number(name, r.map(Option::unwrap_or_default));
+}
+
+fn sets() -> Result<(), Refused> {
     let (a1, a2, i5, i7, a8, a9) = (1, 10, 45, 63, 64, 73);
-    let full = Set::empty().not();
+    let one = Set::single;
+    let full = !Set::empty();
     let stray = Set { lo: 1 << 63, hi: 1 << 18 };
-    set("M1", 0, one(a8).flip());
-    result("M2", one(a8).shift_right(0));
-    result("M3", one(a9).shift_right(1));
-    result("M4", one(i7).shift_left(1));
-    result("M5", one(a1).or(one(a2)).shift_left(8));
-    result("M6", one(i5).shift_down(1));
+    set("M1", one(a8)?.flip());
+    result("M2", one(a8)?.shift_right(0));
+    result("M3", one(a9)?.shift_right(1));
+    result("M4", one(i7)?.shift_left(1));
+    result("M5", (one(a1)? | one(a2)?).shift_left(8));
+    result("M6", one(i5)?.shift_down(1));
     result("full down 9", full.shift_down(9));
     result("full up 9", full.shift_up(9));
     result("full left 9", full.shift_left(9));
     result("full right 9", full.shift_right(9));
     result("up 10", full.shift_up(10));
-    let popped = one(i7).or(one(a8)).pop();
-    print!("M7: {}, ", popped.square);
-    set("leaving", 0, popped.set);
-    result("single 82", Set::single(82));
-    set("stray bits", 0, stray);
-    set("both", 0, full.and(one(a9)));
-    set("either alone", 0, one(a9).xor(one(a8)));
-    set("in the second alone", 0, one(a9).andnot(one(a8).or(one(a9))));
-    let file = Set::from_file(8, 257).set;
-    set("file", 0, file);
+    if let Some((square, rest)) = (one(i7)? | one(a8)?).pop() {
+        print!("M7: {square}, ");
+        set("leaving", rest);
+    }
+    result("single 82", one(82));
+    set("stray bits", stray);
+    set("both", full & one(a9)?);
+    set("either alone", one(a9)? ^ one(a8)?);
+    set("in the second alone", (one(a8)? | one(a9)?) - one(a9)?);
+    let file = Set::from_file(8, 257)?;
+    set("file", file);
     result("pattern 512", Set::from_file(8, 512));
-    let (pattern, none_such) = (file.get_file(8), file.get_file(10));
-    println!("pattern: {}, {}; {}, {}", pattern.number, pattern.pattern, none_such.number, none_such.pattern);
-    let [a, b, c] = [a8, a9, 0].map(|square| file.contains(square));
-    println!("contains: {}, {}; {}, {}; {}, {}", a.number, a.truth as u8, b.number, b.truth as u8, c.number, c.truth as u8);
+    let none_such = file.get_file(10);
+    println!("pattern: 0, {}; {}, {}", file.get_file(8)?, refused(&none_such).number, none_such.unwrap_or(0));
+    let bad = file.contains(0);
+    let [a, b] = [file.contains(a8)?, file.contains(a9)?].map(u8::from);
+    println!("contains: 0, {a}; 0, {b}; {}, {}", refused(&bad).number, u8::from(bad.unwrap_or(false)));
     number("square", Square::new(8, 1));
     number("no square", Square::new(8, 10));
     number("file", Square::file(a8));
     number("rank", Square::rank(i7));
     number("file of 82", Square::file(82));
+    number("flipped", Square::flip(a8));
+    number("flipped 82", Square::flip(82));
+    println!("empty: {}, {}", u8::from(stray.is_empty()), u8::from(full.is_empty()));
+    Ok(())
 }
 
-fn positions() {
+fn kinds() -> Result<(), Refused> {
+    for kind in Kind::PAWN..=Kind::PRO_ROOK {
+        let (letter, limit) = (Kind::letter(kind)?, Kind::limit(kind)?);
+        let promoted = Kind::promote(kind)?.unwrap_or(0);
+        let (unpromoted, held) = (Kind::unpromote(kind)?, Kind::hand_kind(kind)?.unwrap_or(0));
+        println!("kind {kind}: {letter}, limit {limit}, promoted {promoted}, unpromoted {unpromoted}, in hand {held}");
+    }
+    number("letter of 15", Kind::letter(15).map(|letter| letter as u8));
+    number("limit of 0", Kind::limit(0));
+    form("15 promoted", Kind::promote(15));
+    number("15 unpromoted", Kind::unpromote(15));
+    form("15 in hand", Kind::hand_kind(15));
+    number("other colour", Color::flip(Color::BLACK));
+    number("other than 3", Color::flip(3));
+    let rook = Piece::new(Kind::ROOK, Color::WHITE)?;
+    number("white rook", Ok(rook));
+    number("rook of 3", Piece::new(Kind::ROOK, 3));
+    number("its kind", Piece::kind(rook));
+    number("its colour", Piece::color(rook));
+    form("promoted", Piece::promote(rook));
+    form("gold promoted", Piece::promote(Kind::GOLD));
+    number("unpromoted", Piece::unpromote(Piece::new(Kind::PRO_ROOK, Color::WHITE)?));
+    number("kind of 0", Piece::kind(0));
+    number("colour of 16", Piece::color(16));
+    form("31 promoted", Piece::promote(31));
+    number("0 unpromoted", Piece::unpromote(0));
+    Ok(())
+}
+
+fn positions() -> Result<(), Refused> {
     let (mut board, bare) = (Position::startpos(), Position::empty());
-    told_number("piece on 5I", board.piece_at(45));
-    told_number("piece on 5E", board.piece_at(41));
-    told_number("piece on 82", board.piece_at(82));
-    told_set("white", board.player_bitboard(2));
-    told_set("white king", board.piece_bitboard(24));
-    told_set("piece 0", board.piece_bitboard(0));
-    told_set("vacant", board.vacant_bitboard());
-    told_number("king", board.king_position(2));
-    told_number("no king", bare.king_position(2));
-    told_number("hand of kings", board.hand(1, 8));
-    let last = board.last_move();
-    println!("last move: {}, {} {} {} {}", last.told.number, last.last.tag, last.last.a, last.last.b, last.last.promote);
-    let mut stepped = Position::startpos();
-    told("8H to 2B, promoting", stepped.step_normal(71, 11, true));
-    told("3C to 3D", stepped.step_normal(21, 22, false));
-    told("bishop dropped on 5E", stepped.step_drop(6, 41));
-    told_number("piece on 5E", stepped.piece_at(41));
-    told_number("bishops in hand", stepped.hand(1, 6));
-    told("side", board.side_to_move_set(2));
+    told_form("piece on 5I", board.piece_at(Square::new(5, 9)?));
+    told_form("piece on 5E", board.piece_at(Square::new(5, 5)?));
+    told_form("piece on 82", board.piece_at(82));
+    result("white", board.player_bitboard(Color::WHITE));
+    result("white king", board.piece_bitboard(Piece::new(Kind::KING, Color::WHITE)?));
+    result("piece 0", board.piece_bitboard(0));
+    result("vacant", board.vacant_bitboard());
+    told_form("king", board.king_position(Color::WHITE));
+    told_form("no king", bare.king_position(Color::WHITE));
+    told_number("hand of kings", board.hand(Color::BLACK, Kind::KING));
+    if board.last_move()?.is_none() {
+        println!("last move: 0, 0 0 0 0");
+    }
+    told("side", board.side_to_move_set(Color::WHITE));
     told_number("side", board.side_to_move());
     told("ply 0", board.ply_set(0));
     told("ply", board.ply_set(65535));
-    let ply = board.ply();
-    println!("ply: {}, {}", ply.told.number, ply.ply);
-    told("last ply", board.make_normal(21, 22, false));
+    println!("ply: 0, {}", board.ply()?);
+    told("last ply", board.make_move(Move::Normal { from: 21, to: 22, promote: false }));
     board.hands[0] = 19;
     told("too many pawns", board.ply_set(1));
     let ply = board.ply();
-    println!("ply: {}, {}", ply.told.number, ply.ply);
+    println!("ply: {}, {}", refused(&ply).number, ply.unwrap_or(0));
+    Ok(())
 }
 
-fn main() {
-    sets();
-    positions();
+fn main() -> Result<(), Refused> {
+    sets()?;
+    kinds()?;
+    positions()
 }

@@ -1,72 +1,93 @@
 //! The same as examples/c/play.c: a lent position is changed in place, lamps are lit for a set of squares, the text is sent.
-use pulfredan::{Position, Set, Square};
+use pulfredan::{Color, Kind, Move, Piece, Position, Refused, Set, Square, TEXT_MAX};
 
-fn lamps(name: &str, mut set: Set) {
+fn lamps(name: &str, set: Set) {
     print!("{name}:");
-    loop {
-        let next = set.pop();
-        if next.square == 0 {
-            break;
-        }
-        print!(" {}", next.square);
-        set = next.set;
+    for square in set {
+        print!(" {square}");
     }
     println!();
 }
 
-fn send(board: &Position, room: usize) {
-    let mut line = [0; 168];
-    line[0] = b'-';
-    let wrote = board.write_sfen(&mut line[..room]);
-    let text = String::from_utf8_lossy(&line[..wrote.length.max(1)]);
-    println!("text in {room} bytes: {}, {} bytes, {text}", wrote.told.number, wrote.length);
+/// 0, or the number of the refusal.
+fn number<T>(answer: Result<T, Refused>) -> u8 {
+    answer.err().map_or(0, |refused| refused.number)
 }
 
-fn square(file: u8, rank: u8) -> u8 {
-    Square::new(file, rank - b'A' + 1).value
+fn send(board: &Position, room: usize) {
+    let mut line = [0; TEXT_MAX];
+    line[0] = b'-';
+    let wrote = board.write_sfen(&mut line[..room]);
+    let length = wrote.unwrap_or(0);
+    let text = String::from_utf8_lossy(&line[..length.max(1)]);
+    println!("text in {room} bytes: {}, {length} bytes, {text}", number(wrote));
+}
+
+fn square(file: u8, rank: u8) -> Result<u8, Refused> {
+    Square::new(file, rank - b'A' + 1)
 }
 
 /// Plays a move, and lights the squares whose occupation changed.
-fn play(board: &mut Position, from: u8, to: u8, promote: bool) {
-    let before = board.occupied_bitboard().set;
+fn play(board: &mut Position, from: u8, to: u8, promote: bool) -> Result<(), Refused> {
     let given = *board;
-    let told = board.make_normal(from, to, promote);
+    let played = board.make_move(Move::Normal { from, to, promote });
     let same = if given == *board { ", nothing changed" } else { "" };
-    println!("{from} to {to}: {}{same}", told.number);
-    lamps("lamps", before.xor(board.occupied_bitboard().set));
+    println!("{from} to {to}: {}{same}", number(played));
+    lamps("lamps", given.occupied_bitboard()? ^ board.occupied_bitboard()?);
+    Ok(())
 }
 
-fn main() {
+/// A game begins: two pawns make way, Black's bishop takes White's and promotes, a silver takes it, a bishop is dropped.
+fn game() -> Result<(), Refused> {
     let mut board = Position::startpos();
-    send(&board, 168);
+    send(&board, TEXT_MAX);
+    play(&mut board, square(7, b'G')?, square(7, b'F')?, false)?;
+    send(&board, TEXT_MAX);
+    play(&mut board, square(3, b'C')?, square(3, b'D')?, false)?;
+    play(&mut board, square(8, b'H')?, square(2, b'B')?, true)?;
+    send(&board, TEXT_MAX);
+    println!("in hand: {}", board.hand(Color::BLACK, Kind::BISHOP)?);
+    lamps("promoted bishops", board.piece_kind_bitboard(Kind::PRO_BISHOP)?);
+    if let Some(Move::Normal { from, to, promote }) = board.last_move()? {
+        println!("last move: 1 {from} {to} {}", u8::from(promote));
+    }
 
-    play(&mut board, square(7, b'G'), square(7, b'F'), false);
-    send(&board, 168);
+    // Refused: the square is empty, the piece is Black's.
+    play(&mut board, square(5, b'E')?, square(5, b'D')?, false)?;
+    play(&mut board, square(5, b'I')?, square(5, b'H')?, false)?;
 
-    board = Position::startpos();
-    play(&mut board, square(8, b'H'), square(2, b'B'), true);
-    send(&board, 168);
-    println!("in hand: {}", board.hand(1, 6).value);
-    lamps("promoted bishops", board.piece_kind_bitboard(13).set);
-    let last = board.last_move().last;
-    println!("last move: {} {} {} {}", last.tag, last.a, last.b, last.promote);
+    play(&mut board, square(3, b'A')?, square(2, b'B')?, false)?;
+    let bishop = Piece::new(Kind::BISHOP, Color::BLACK)?;
+    println!("drop: {}", number(board.make_move(Move::Drop { piece: bishop, to: square(5, b'E')? })));
+    send(&board, TEXT_MAX);
+    Ok(())
+}
 
-    // Refused: the square is empty, the piece is Black's; then a buffer one byte short.
-    play(&mut board, square(5, b'E'), square(5, b'D'), false);
-    play(&mut board, square(5, b'I'), square(5, b'H'), false);
-    board = Position::startpos();
+fn edits() -> Result<(), Refused> {
+    // A buffer that just fits, and one that is a byte short.
+    let mut board = Position::startpos();
     send(&board, 63);
     send(&board, 62);
 
-    // The hand of a drop, given by an edit after a pawn went from the board; and a byte that no call wrote.
-    let emptied = board.piece_set(square(7, b'G'), 0).number;
-    let held = board.hand_set(1, 1, 1).number;
-    let too_many = board.hand_set(1, 1, 2).number;
+    // A pawn goes from the board to the hand by edits; a full set has no second one. It is dropped, in a file that has none.
+    let emptied = number(board.piece_set(square(7, b'G')?, 0));
+    let held = number(board.hand_set(Color::BLACK, Kind::PAWN, 1));
+    let too_many = number(board.hand_set(Color::BLACK, Kind::PAWN, 2));
     println!("edits: {emptied} {held} {too_many}");
-    println!("drop: {}", board.make_drop(1, square(5, b'E')).number);
-    send(&board, 168);
-    board.board[square(5, b'E') as usize - 1] = 15;
-    let found = board.soundness();
-    println!("soundness: {}, square {}", found.number, found.square);
-    send(&board, 168);
+    let pawn = Piece::new(Kind::PAWN, Color::BLACK)?;
+    println!("drop: {}", number(board.make_move(Move::Drop { piece: pawn, to: square(7, b'E')? })));
+    send(&board, TEXT_MAX);
+
+    // A byte that no call wrote.
+    board.board[usize::from(square(5, b'E')?) - 1] = 15;
+    if let Err(refused) = board.soundness() {
+        println!("soundness: {}, square {}", refused.number, refused.square);
+    }
+    send(&board, TEXT_MAX);
+    Ok(())
+}
+
+fn main() -> Result<(), Refused> {
+    game()?;
+    edits()
 }
