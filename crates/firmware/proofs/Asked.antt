@@ -1,14 +1,17 @@
--- The last move of a lent position: its number says whether the position is sound.
+-- The last move of a lent position: its number says whether the position is sound, and its four numbers read back are what last_move
+-- answers.
 use Prim.Native.Nat.{ℕ}
 use mathlib.Core.Path.{_≡_, refl, sym, ap, _∙_}
 use mathlib.Core.Bool.{Bool, true, false, not, cond}
 use native.Mathlib.Omega.{arith}
+use lib.Dec.{eqb}
 use Rattle.position.specs.Sound.{sound}
 use Rattle.position.specs.Machine.{noMove}
-use Rattle.position.specs.Answers.{firstFact, toldBy, queryFacts, toldQuery, soundnessTold}
+use Rattle.position.specs.Answers.{firstFact, toldBy, queryFacts, toldQuery, answered, soundnessTold, lastMove, lastAnswer}
 use Rattle.position.specs.declared.position.Position.{Position}
 use Rattle.position.specs.declared.answers.Told.{Told}
 use Rattle.position.specs.declared.mv.MoveNumbers.{MoveNumbers}
+use Rattle.position.specs.declared.mv.LastMove.the-variants as Last
 use Rattle.firmware.specs.declared.answers.CLast.{CLast}
 use Rattle.firmware.specs.Shown.{lastShown}
 
@@ -32,3 +35,12 @@ module _ (p : Position) (t : Told) (e : t ≡ soundnessTold p) where
   pub last-done : t .number ≡ 0 → record { told = t; last = p .last } ≡ lastShown p
   unfolding lastShown
   last-done h = rw (done-sound (sound p) (sym sound-told ∙ h), ← e)
+
+read-back : (b : Bool) (l : MoveNumbers) → lastMove (cond b l noMove) ≡ cond (eqb (cond (not b) 1 0) 0) (lastMove l) Last.Nothing
+unfolding lastMove
+read-back true l = refl
+read-back false l = refl
+
+pub last-agrees : (p : Position) → (lastShown p .told ≡ lastAnswer p .told) × (lastMove (lastShown p .last) ≡ lastAnswer p .last)
+unfolding lastShown lastAnswer soundnessTold answered queryFacts firstFact
+last-agrees p = (refl, read-back (sound p) (p .last))

@@ -26,7 +26,7 @@ use Rattle.firmware.specs.declared.answers.CLast.{CLast}
 abbrev pub numberShown : NumberValue → CNumber
 numberShown v = record { number = v .number; value = v .value }
 
--- a kind or a piece: a kind is 1 to 14, a piece a cell "other than 0", so that 0 says "nothing"
+-- a kind or a piece, or "nothing": kinds are 1 to 14, and a piece is "a good cell number other than 0", so that 0 says it
 abbrev pub formShown : FormValue → CNumber
 formShown v = record { number = v .number; value = v .value }
 
@@ -66,6 +66,7 @@ kingNumber (King.At n) = n
 abbrev pub kingShown : KingAnswer → NumberAnswer
 kingShown a = record { told = a .told; value = kingNumber (a .king) }
 
--- last_move: a position stores "none" as four zeros, and a move in the numbers that C sees; a refused call carries "nothing"
+-- the answer of last_move: "last move (nothing where there is none)", in the four numbers that a position stores, of which zeros say
+-- "nothing"
 unfoldable pub lastShown : Position → CLast
 lastShown p = record { told = soundnessTold p; last = cond (sound p) (p .last) noMove }
