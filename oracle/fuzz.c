@@ -1,7 +1,7 @@
 /* fuzz SECONDS SEED: random bytes as positions, numbers and buffers through the exported calls. Position and buffer end where a page
  * begins that may not be touched, and begin behind bytes that must stay; so a byte read or written past them stops the program. Fails
  * where a refusal or a query changes a byte, where an answer has no such number, where an accepted change gives what is not sound, or
- * where the step does not leave what an accepted move leaves.
+ * where kinds and pieces taken apart do not go together again.
  * No header of a C library is used: a compiler for another machine than this has none. */
 #include "pulfredan.h"
 
@@ -134,17 +134,25 @@ static void try_change(int call)
         fail("an accepted change gave what is not sound", QUERIES + call);
 }
 
-static void try_step(void)
+/* What is taken apart goes together again, and what goes up comes down; a refused call carries 0. */
+static void try_kinds(void)
 {
-    uint8_t x = any_number(), y = any_number();
-    bool drop = next_random() % 2, promote = next_random() % 2;
-    pulfredan_position moved = *p;
-    pulfredan_told made = drop ? pulfredan_make_drop(&moved, x, y) : pulfredan_make_normal(&moved, x, y, promote);
-    pulfredan_told told = drop ? pulfredan_step_drop(p, x, y) : pulfredan_step_normal(p, x, y, promote);
-    if (told.number || told.square)
-        fail("a step was refused", 100);
-    if (made.number == 0 && memcmp(&moved, p, sizeof moved))
-        fail("a step and an accepted move leave different positions", 100);
+    uint8_t x = any_number();
+    pulfredan_number_result kind = pulfredan_piece_kind(x), color = pulfredan_piece_color(x), up = pulfredan_kind_promote(x);
+    pulfredan_number_result other = pulfredan_color_flip(x), seen = pulfredan_square_flip(x), letter = pulfredan_kind_letter(x);
+    pulfredan_number_result limit = pulfredan_kind_limit(x), held = pulfredan_kind_hand_kind(x), promoted = pulfredan_piece_promote(x);
+    if (kind.number == 0 ? pulfredan_piece_new(kind.value, color.value).value != x : color.number != 2 || kind.value || color.value)
+        fail("a piece is not of its kind and colour", 300);
+    if (up.value && pulfredan_kind_unpromote(up.value).value != x)
+        fail("a kind does not come down again", 301);
+    if (promoted.value && pulfredan_piece_unpromote(promoted.value).value != x)
+        fail("a piece does not come down again", 302);
+    if (other.number == 0 ? pulfredan_color_flip(other.value).value != x : other.value)
+        fail("a colour's other colour has another", 303);
+    if (seen.number == 0 ? pulfredan_square_flip(seen.value).value != x : seen.value)
+        fail("a flipped square does not flip back", 304);
+    if (limit.value > 18 || held.value > 7 || (letter.number == 0) != (x >= 1 && x <= 14) || limit.number != letter.number)
+        fail("a kind's answer", 305);
 }
 
 static void try_text(void)
@@ -179,7 +187,8 @@ static void try_sets(void)
     for (size_t i = 0; i < sizeof all / sizeof *all; i++)
         if (all[i].lo >> 63 || all[i].hi >> 18)
             fail("a set has stray bits", 200 + (int)i);
-    if (pulfredan_set_count(a) > 81 || pulfredan_set_contains(a, any_number()).number > 2 || pulfredan_set_get_file(a, any_number()).pattern > 511)
+    if (pulfredan_set_count(a) > 81 || pulfredan_set_is_empty(a) != (pulfredan_set_count(a) == 0) ||
+        pulfredan_set_contains(a, any_number()).number > 2 || pulfredan_set_get_file(a, any_number()).pattern > 511)
         fail("a set's answer", 220);
     if (pulfredan_square_new(any_number(), any_number()).value > 81 || pulfredan_square_file(any_number()).value > 9 ||
         pulfredan_square_rank(any_number()).value > 9)
@@ -204,7 +213,7 @@ int main(int argc, char **argv)
             case 0: try_query(next_random() % QUERIES); break;
             case 1: try_text(); break;
             case 2: try_sets(); break;
-            case 3: try_step(); break;
+            case 3: try_kinds(); break;
             default: try_change(next_random() % CHANGES); break;
             }
         }
