@@ -1,7 +1,8 @@
-/* bench [ROUNDS]: the same calls on the same inputs through our archive and through the Rust (bench_side.rs); the answers are
- * compared first. Without ROUNDS each loop runs once between two calls of `mark`, for whoever counts instructions; with ROUNDS the
- * loops are timed in turn, and the ratio of the least times is printed. The loops are named run_.., so that a counter can leave their
- * own instructions out. No header of a C library is used: a compiler for another machine than this has none. */
+/* bench [ROUNDS | stack]: the same calls on the same inputs through our archive and through the Rust (bench_side.rs); the answers are
+ * compared first. Without a word each loop runs once between two calls of `mark`, for whoever counts instructions; with ROUNDS the
+ * loops are timed in turn, and the ratio of the least times is printed; with `stack` the bytes of stack that our calls take are printed.
+ * The loops are named run_.., so that a counter can leave their own instructions out. No header of a C library is used: a compiler for
+ * another machine than this has none. */
 #include "pulfredan.h"
 
 int printf(const char *, ...);
@@ -77,14 +78,6 @@ static inline __attribute__((always_inline)) bool play_ours(pulfredan_position *
     if (m.drop)
         return pulfredan_make_drop(p, m.from, m.to).number == 0;
     return pulfredan_make_normal(p, m.from, m.to, m.promote).number == 0;
-}
-
-static inline __attribute__((always_inline)) void step_ours(pulfredan_position *p, move m)
-{
-    if (m.drop)
-        pulfredan_step_drop(p, m.from, m.to);
-    else
-        pulfredan_step_normal(p, m.from, m.to, m.promote);
 }
 
 static inline __attribute__((always_inline)) bool play_theirs(rust_position *p, move m)
@@ -172,8 +165,12 @@ LOOP(ours_pop_all, SETS, for (pulfredan_popped r = pulfredan_set_pop(a[i]); r.sq
 LOOP(rust_pop_all, SETS, for (pulfredan_popped r = rust_set_pop(a[i]); r.square; r = rust_set_pop(r.set)) ADD(r.square))
 LOOP(ours_move, MOVES, ADD(play_ours(&ours, moves[i])))
 LOOP(rust_move, MOVES, ADD(play_theirs(&theirs, moves[i])))
-LOOP(ours_step, MOVES, { step_ours(&ours, moves[i]); ADD(1); })
 LOOP(ours_soundness, TEXTS, ADD(pulfredan_soundness(&ours_at[i]).number))
+LOOP(ours_piece_at, TEXTS, ADD(pulfredan_piece_at(&ours_at[i], square[i]).value))
+LOOP(ours_king, TEXTS, ADD(pulfredan_king_position(&ours_at[i], 1 + i % 2).value))
+LOOP(ours_last, TEXTS, ADD(pulfredan_last_move(&ours_at[i]).last.a))
+LOOP(ours_piece_set, TEXTS, ADD(pulfredan_piece_set(&ours_at[i], square[i], ours_at[i].board[square[i] - 1]).number))
+LOOP(ours_hand_set, TEXTS, ADD(pulfredan_hand_set(&ours_at[i], 1, 1, ours_at[i].hands[0]).number))
 LOOP(ours_text, TEXTS, { pulfredan_write_sfen(&ours_at[i], text, ROOM); ADD(text[i]); })
 LOOP(rust_text, TEXTS, { rust_write_sfen(&theirs_at[i], text); ADD(text[i]); })
 
@@ -189,8 +186,12 @@ static const row rows[] = {
     ROW(and), ROW(or), ROW(xor), ROW(andnot), ROW(not), ROW(count), ROW(contains), ROW(flip), ROW(down), ROW(up), ROW(left), ROW(right),
     {"pop until empty", SETS, run_ours_pop_all, run_rust_pop_all},
     {"make_move, lent", MOVES, run_ours_move, run_rust_move},
-    {"inner step, lent", MOVES, run_ours_step, run_rust_move},
     {"soundness test", TEXTS, run_ours_soundness, run_nothing},
+    {"piece_at, lent", TEXTS, run_ours_piece_at, run_nothing},
+    {"king_position, lent", TEXTS, run_ours_king, run_nothing},
+    {"last_move, lent", TEXTS, run_ours_last, run_nothing},
+    {"piece_set, lent", TEXTS, run_ours_piece_set, run_nothing},
+    {"hand_set, lent", TEXTS, run_ours_hand_set, run_nothing},
     {"text", TEXTS, run_ours_text, run_rust_text},
 };
 enum { ROWS = sizeof rows / sizeof *rows };
@@ -222,7 +223,7 @@ static bool compare(void)
     return same_texts();
 }
 
-/* ---- the two ways to measure */
+/* ---- the three ways to measure */
 
 static void run_marked(uint64_t (*loop)(void))
 {
@@ -259,7 +260,25 @@ static void time_row(const row *r, int rounds)
             least[side] = t < least[side] ? t : least[side];
         }
     double calls = (double)TIMES * r->calls;
-    printf("%-18s %10.2f ns %10.2f ns %8.2f\n", r->name, least[0] / calls, least[1] / calls, (double)least[0] / least[1]);
+    printf("%-20s %8.2f ns", r->name, least[0] / calls);
+    if (r->rust != run_nothing)
+        printf(" %8.2f ns %6.2f", least[1] / calls, (double)least[0] / least[1]);
+    printf("\n");
+}
+
+/* The bytes below this frame that a loop and its calls use: they are painted, and the lowest that lost its paint is looked for. */
+__attribute__((noinline)) static int stack_of(uint64_t (*loop)(void))
+{
+    enum { OWN = 128, DEEP = 65536, PAINT = 0xa5 };
+    volatile uint8_t *top = __builtin_frame_address(0);
+    int depth;
+    for (depth = OWN; depth < DEEP; depth++)
+        top[-depth] = PAINT;
+    loop();
+    do
+        depth--;
+    while (depth > OWN && top[-depth] == PAINT);
+    return depth;
 }
 
 int main(int argc, char **argv)
@@ -269,6 +288,11 @@ int main(int argc, char **argv)
     if (rust_size() > sizeof theirs || !record_moves() || !compare())
         return 1;
     for (int k = 0; k < ROWS; k++) {
+        if (argc > 1 && *argv[1] == 's') {
+            set_out();
+            printf("%-20s %6d\n", rows[k].name, stack_of(rows[k].ours));
+            continue;
+        }
         if (argc > 1) {
             time_row(&rows[k], atoi(argv[1]));
             continue;
