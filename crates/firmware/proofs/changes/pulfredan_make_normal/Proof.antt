@@ -2,6 +2,8 @@
 use contract.Running.{givenOf, tables, tablesOf}
 use denote.Triple.Spec.{tripleOf}
 use denote.Triple.Table.{entered, cited}
+use Rattle.position.specs.Moves.{movePlayed}
+use Rattle.lent.specs.InPlace.{Leaves}
 use Rattle.lent.proofs.Laws.{entry-triple, hands-normal}
 use Rattle.lent.proofs.make_move_in_place.Symbol as g-def
 use Rattle.lent.proofs.make_move_in_place.Met as g-thm
@@ -15,5 +17,5 @@ unfolding code.routine tablesOf
 pulfredan-make-normal-spec 𝓤 H 𝓜 𝓖 𝓡 =
     entered 𝓤 H (tripleOf 𝓤 H (𝓖 .A) f.signature (f.spec 𝓤 H (𝓖 .A) (𝓜 .mem) (𝓡 .run)))
     (tables 𝓤 H 𝓜 𝓡 code.env .C) (tables 𝓤 H 𝓜 𝓡 code.env .Λ) #f code.function (code.unfolded 𝓤 H 𝓜 𝓡)
-    (hands-normal 𝓤 H (𝓖 .A) g-def.name (givenOf 𝓤 H 𝓜 𝓖) (tablesOf 𝓤 H 𝓜 (tables 𝓤 H 𝓜 𝓡 code.env))
-    (cited 𝓤 H (entry-triple 𝓤 H (𝓖 .A)) 𝓜 𝓡 code.env g-def.name g-def.routine code.calls-lent·make-move-in-place (g-thm.met 𝓤 H 𝓜 𝓖 𝓡)))
+    (hands-normal (λ h m. Leaves (movePlayed h m) h) 𝓤 H (𝓖 .A) g-def.name (givenOf 𝓤 H 𝓜 𝓖) (tablesOf 𝓤 H 𝓜 (tables 𝓤 H 𝓜 𝓡 code.env))
+    (cited 𝓤 H (entry-triple (λ h m. Leaves (movePlayed h m) h) 𝓤 H (𝓖 .A)) 𝓜 𝓡 code.env g-def.name g-def.routine code.calls-lent·make-move-in-place (g-thm.met 𝓤 H 𝓜 𝓖 𝓡)))
