@@ -1,11 +1,11 @@
 -- The structs that the queries of a lent position answer.
 use Rattle.lent.proofs.Laws.{Arg, Lawful, struct-arg, struct-lawful}
-use Rattle.position.proofs.answers.SetAnswer as S
-use Rattle.position.proofs.answers.SetAnswer.Laws as S′
-use Rattle.position.proofs.answers.NumberAnswer as N
-use Rattle.position.proofs.answers.NumberAnswer.Laws as N′
-use Rattle.position.proofs.answers.PlyAnswer as P
-use Rattle.position.proofs.answers.PlyAnswer.Laws as P′
+use Rattle.position.proofs.answers.ToldSet as S
+use Rattle.position.proofs.answers.ToldSet.Laws as S′
+use Rattle.position.proofs.answers.ToldNumber as N
+use Rattle.position.proofs.answers.ToldNumber.Laws as N′
+use Rattle.position.proofs.answers.ToldPly as P
+use Rattle.position.proofs.answers.ToldPly.Laws as P′
 use Rattle.firmware.proofs.answers.CLast as L
 use Rattle.firmware.proofs.answers.CLast.Laws as L′
 

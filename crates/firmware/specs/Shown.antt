@@ -6,13 +6,13 @@ use Rattle.position.specs.Machine.{noMove}
 use Rattle.position.specs.Sound.{sound}
 use Rattle.position.specs.Answers.{soundnessTold}
 use Rattle.position.specs.declared.position.Position.{Position}
-use Rattle.position.specs.declared.answers.NumberAnswer.{NumberAnswer}
+use Rattle.position.specs.declared.answers.ToldNumber.{ToldNumber}
 use Rattle.position.specs.declared.answers.Stands.{Stands}
 use Rattle.position.specs.declared.answers.Stands.the-variants as Stand
-use Rattle.position.specs.declared.answers.PieceAnswer.{PieceAnswer}
+use Rattle.position.specs.declared.answers.ToldPiece.{ToldPiece}
 use Rattle.position.specs.declared.answers.KingSquare.{KingSquare}
 use Rattle.position.specs.declared.answers.KingSquare.the-variants as King
-use Rattle.position.specs.declared.answers.KingAnswer.{KingAnswer}
+use Rattle.position.specs.declared.answers.ToldKing.{ToldKing}
 use Rattle.firmware.specs.declared.answers.CNumber.{CNumber}
 use Rattle.firmware.specs.declared.answers.CSet.{CSet}
 use Rattle.firmware.specs.declared.answers.CTruth.{CTruth}
@@ -54,7 +54,7 @@ pieceNumber Stand.Nothing = 0
 pieceNumber (Stand.Piece c) = c
 
 -- the answer of piece_at
-abbrev pub pieceShown : PieceAnswer → NumberAnswer
+abbrev pub pieceShown : ToldPiece → ToldNumber
 pieceShown a = record { told = a .told; value = pieceNumber (a .stands) }
 
 -- a square is 1 to 81, so that 0 says "nothing"
@@ -63,7 +63,7 @@ kingNumber King.Nothing = 0
 kingNumber (King.At n) = n
 
 -- the answer of king_position
-abbrev pub kingShown : KingAnswer → NumberAnswer
+abbrev pub kingShown : ToldKing → ToldNumber
 kingShown a = record { told = a .told; value = kingNumber (a .king) }
 
 -- the answer of last_move: "last move (nothing where there is none)", in the four numbers that a position stores, of which zeros say

@@ -7,12 +7,12 @@ ghost use Rattle.firmware.specs.Shown.{pieceNumber, pieceShown, kingNumb
 use crate::answers::CLast;
 use position::KingSquare;
 use position::MoveNumbers;
-use position::NumberAnswer;
-use position::PlyAnswer;
 use position::Position;
-use position::SetAnswer;
 use position::Stands;
 use position::Told;
+use position::ToldNumber;
+use position::ToldPly;
+use position::ToldSet;
 
 #[no_mangle]
 pub extern "C" fn pulfredan_startpos() -> Position
@@ -30,14 +30,14 @@ pub extern "C" fn pulfredan_empty() -> Position
 
 // ---- answers that hold an enum, as numbers
 
-fn piece_at(p: Position, square: u8) -> NumberAnswer
+fn piece_at(p: Position, square: u8) -> ToldNumber
     ensures { λ r. ⌜ r ≡ pieceShown (pieceAtAnswer p square) ⌝ }
 {
     let found = p.piece_at(square);
     let told = found.told;
     let stands = found.stands;
     let value = piece_number(stands);
-    NumberAnswer { told, value }
+    ToldNumber { told, value }
 }
 
 fn piece_number(stands: Stands) -> u8
@@ -49,14 +49,14 @@ fn piece_number(stands: Stands) -> u8
     }
 }
 
-fn king_position(p: Position, color: u8) -> NumberAnswer
+fn king_position(p: Position, color: u8) -> ToldNumber
     ensures { λ r. ⌜ r ≡ kingShown (kingAnswer p color) ⌝ }
 {
     let found = p.king_position(color);
     let told = found.told;
     let king = found.king;
     let value = king_number(king);
-    NumberAnswer { told, value }
+    ToldNumber { told, value }
 }
 
 fn king_number(king: KingSquare) -> u8
@@ -91,70 +91,70 @@ pub extern "C" fn pulfredan_soundness(p: &Position) -> Told
 }
 
 #[no_mangle]
-pub extern "C" fn pulfredan_piece_at(p: &Position, square: u8) -> NumberAnswer
+pub extern "C" fn pulfredan_piece_at(p: &Position, square: u8) -> ToldNumber
     ensures { λ r. ⌜ r ≡ pieceShown (pieceAtAnswer (now (p .entry)) square) ⌝ }
 {
     piece_at(*p, square)
 }
 
 #[no_mangle]
-pub extern "C" fn pulfredan_player_bitboard(p: &Position, color: u8) -> SetAnswer
+pub extern "C" fn pulfredan_player_bitboard(p: &Position, color: u8) -> ToldSet
     ensures { λ r. ⌜ r ≡ colourSetAnswer (now (p .entry)) color ⌝ }
 {
     (*p).player_bitboard(color)
 }
 
 #[no_mangle]
-pub extern "C" fn pulfredan_piece_kind_bitboard(p: &Position, kind: u8) -> SetAnswer
+pub extern "C" fn pulfredan_piece_kind_bitboard(p: &Position, kind: u8) -> ToldSet
     ensures { λ r. ⌜ r ≡ kindSetAnswer (now (p .entry)) kind ⌝ }
 {
     (*p).piece_kind_bitboard(kind)
 }
 
 #[no_mangle]
-pub extern "C" fn pulfredan_piece_bitboard(p: &Position, piece: u8) -> SetAnswer
+pub extern "C" fn pulfredan_piece_bitboard(p: &Position, piece: u8) -> ToldSet
     ensures { λ r. ⌜ r ≡ pieceSetAnswer (now (p .entry)) piece ⌝ }
 {
     (*p).piece_bitboard(piece)
 }
 
 #[no_mangle]
-pub extern "C" fn pulfredan_occupied_bitboard(p: &Position) -> SetAnswer
+pub extern "C" fn pulfredan_occupied_bitboard(p: &Position) -> ToldSet
     ensures { λ r. ⌜ r ≡ occupiedAnswer (now (p .entry)) ⌝ }
 {
     (*p).occupied_bitboard()
 }
 
 #[no_mangle]
-pub extern "C" fn pulfredan_vacant_bitboard(p: &Position) -> SetAnswer
+pub extern "C" fn pulfredan_vacant_bitboard(p: &Position) -> ToldSet
     ensures { λ r. ⌜ r ≡ vacantAnswer (now (p .entry)) ⌝ }
 {
     (*p).vacant_bitboard()
 }
 
 #[no_mangle]
-pub extern "C" fn pulfredan_side_to_move(p: &Position) -> NumberAnswer
+pub extern "C" fn pulfredan_side_to_move(p: &Position) -> ToldNumber
     ensures { λ r. ⌜ r ≡ sideAnswer (now (p .entry)) ⌝ }
 {
     (*p).side_to_move()
 }
 
 #[no_mangle]
-pub extern "C" fn pulfredan_ply(p: &Position) -> PlyAnswer
+pub extern "C" fn pulfredan_ply(p: &Position) -> ToldPly
     ensures { λ r. ⌜ r ≡ plyAnswer (now (p .entry)) ⌝ }
 {
     (*p).ply()
 }
 
 #[no_mangle]
-pub extern "C" fn pulfredan_hand(p: &Position, color: u8, kind: u8) -> NumberAnswer
+pub extern "C" fn pulfredan_hand(p: &Position, color: u8, kind: u8) -> ToldNumber
     ensures { λ r. ⌜ r ≡ handAnswer (now (p .entry)) color kind ⌝ }
 {
     (*p).hand(color, kind)
 }
 
 #[no_mangle]
-pub extern "C" fn pulfredan_king_position(p: &Position, color: u8) -> NumberAnswer
+pub extern "C" fn pulfredan_king_position(p: &Position, color: u8) -> ToldNumber
     ensures { λ r. ⌜ r ≡ kingShown (kingAnswer (now (p .entry)) color) ⌝ }
 {
     king_position(*p, color)

@@ -39,10 +39,10 @@ bytes ε = []
 bytes (c ▸ s) = code c ∷ bytes s
 
 -- a move from the start: the number answered, and the text of the position handed back
-abbrev shown : Answer → ℕ × List ℕ
+abbrev pub shown : Answer → ℕ × List ℕ
 shown a = (a .told .number, positionText (a .position))
 
-abbrev fromStart : Move → ℕ × List ℕ
+abbrev pub fromStart : Move → ℕ × List ℕ
 fromStart v = shown (movePlayed startPosition v)
 
 -- "no pieces on board, Black holds a rook and 2 pawns, White 10 pawns, White to move, ply 7"
@@ -61,7 +61,7 @@ unfolding pawns handAt allGood anyBelow kingWrong standing countOf digit goodCel
 pawns-sound = machine-sound pawns 0 0 refl refl refl refl refl refl refl
 
 -- 5E to 5D, 3C to 3D, 5I to 5H promoting, 5I to 5I, 5I to 5A, a black pawn dropped on 5G and on 5E
-abbrev refusals : List Move
+abbrev pub refusals : List Move
 refusals = Normal 41 40 false ∷ Normal 21 22 false ∷ Normal 45 44 true ∷ Normal 45 45 false ∷ Normal 45 37 false ∷ Drop 1 43 ∷ Drop 1 41 ∷ []
 
 -- ---- from the start the plain machine says the same, and it computes
