@@ -107,7 +107,7 @@ pub marked :
     × (positionText (full pawns) ≡ bytes "9/9/9/9/9/9/9/9/9 w R2P10p 7")
     -- M12
     × (map (λ v. movePlayed startPosition v .told .number) refusals ≡ 3 ∷ 4 ∷ 5 ∷ 6 ∷ 7 ∷ 9 ∷ 10 ∷ [])
-unfolding squares among setOf word digit has bit odd onSide onBoard squareAt fileOf rankOf flipTo fileStep rankStep step flipS shiftS size countOf isEmpty emptyS notS popAnswer smallest firstOf withoutS bytes pawns positionText text shogi boardText ranks rankCells down tab ranksText laterText rankText run pieceText kindText letterOf kindRow kinds colourOf kindOf goodPiece goodKind handKind otherColour promotedPiece pieceOf sideByte decimal numberText countText handText orDash handsText handAt startPosition startCells startRanks full machine plainAnswer plainNumber plainNext firstFact badMove ruleFacts normalFacts dropFacts next moved arriving held
+unfolding squares among topPly setOf word digit has bit odd onSide onBoard squareAt fileOf rankOf flipTo fileStep rankStep step flipS shiftS size countOf isEmpty emptyS notS popAnswer smallest firstOf withoutS bytes pawns positionText text shogi boardText ranks rankCells down tab ranksText laterText rankText run pieceText kindText letterOf kindRow kinds colourOf kindOf goodPiece goodKind handKind otherColour promotedPiece pieceOf sideByte decimal numberText countText handText orDash handsText handAt startPosition startCells startRanks full machine plainAnswer plainNumber plainNext firstFact badMove ruleFacts normalFacts dropFacts next moved arriving held
 marked = (
   refl,
   refl,
