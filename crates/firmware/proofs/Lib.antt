@@ -1,3 +1,4 @@
 mod Results
 mod Keeping
 mod Asked
+mod Unique

@@ -31,10 +31,6 @@ use Rattle.position.proofs.Ladder.{never-one, normal-passes, drop-passe
 use Rattle.position.proofs.Kept.{itself, moved-order, dropped-order}
 use Rattle.position.proofs.Exact.{Given, None, nonzero, given-first, first-given, none-first, first-none}
 
--- ---- every promise of this crate is an equation with its definition, so any two results that it allows are equal
-pub one-answer : {A : Type 0} (definition x y : A) → x ≡ definition → y ≡ definition → x ≡ y
-one-answer definition x y e f = e ∙ sym f
-
 numbered : (p : Position) (v : Move) → nonzero (moveFacts p v) ≡ true
 unfolding moveFacts ruleFacts normalFacts dropFacts
 numbered p (Normal from to promote) = refl
