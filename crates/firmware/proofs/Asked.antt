@@ -12,7 +12,6 @@ use Rattle.position.specs.declared.position.Position.{Position}
 use Rattle.position.specs.declared.answers.Told.{Told}
 use Rattle.position.specs.declared.mv.MoveNumbers.{MoveNumbers}
 use Rattle.position.specs.declared.mv.LastMove.the-variants as Last
-use Rattle.firmware.specs.declared.answers.CLast.{CLast}
 use Rattle.firmware.specs.Shown.{lastShown}
 
 done-sound : (b : Bool) → _≡_ {A = ℕ} (cond (not b) 1 0) 0 → b ≡ true

@@ -1,5 +1,4 @@
 // Moves and edits of a lent position, in place: `Leaves` says what the call by value answers, and that a refusal leaves every field.
-ghost use mathlib.Core.Path.{_≡_};
 ghost use Rattle.position.specs.Moves.{movePlayed};
 ghost use Rattle.position.specs.Edits.{cellEdited, handEdited, sideEdited, plyEdited};
 ghost use Rattle.lent.specs.InPlace.{Leaves};

@@ -13,7 +13,7 @@ use Rattle.squares.specs.declared.bitboard.Bitboard.{Bitboard}
 use Rattle.squares.specs.Board.{onBoard}
 use Rattle.squares.specs.Kinds.{goodColour, goodKind, goodPiece, goodCell, colourOf, kindOf}
 use Rattle.squares.specs.Sets.{setOf, emptyS, andS, orS, notS}
-use Rattle.squares.proofs.Laws.{both, decided, good-cells, le-or-lt, board-range, getD-any, setOf-cong, and-rules, or-rules, not-rule, colour-range, kind-range, piece-kind, black-kind, black-colour, white-colour, piece-by, family-at}
+use Rattle.squares.proofs.Laws.{both, decided, good-cells, le-or-lt, board-range, getD-any, setOf-cong, and-rules, or-rules, not-rule, colour-range, kind-range, piece-low-bound, black-colour, white-colour, piece-by, family-at}
 use Rattle.position.specs.Machine.{Sized, cellAt, family, kingSquare}
 use Rattle.position.specs.Sound.{anyBelow, strayIn, kingWrong, firstFault, faultElsewhere, sound}
 use Rattle.position.specs.Inner.{Tidy, markSet, toldSet}
@@ -27,7 +27,6 @@ use Rattle.position.specs.declared.answers.KingSquare.the-variants as Ki
 use Rattle.position.specs.declared.mv.LastMove.{LastMove}
 use Rattle.position.specs.declared.mv.LastMove.the-variants as Last
 use Rattle.position.proofs.Tidiness.{sound-tidy}
-use Rattle.position.proofs.Pieces.{positive}
 use Rattle.position.proofs.Kings.{king-is, king-square}
 use Rattle.position.proofs.Agree.{or-false-both}
 
@@ -88,9 +87,7 @@ mark-at sets k d l h = getD-any sets (k - 1) d emptyS (omega arith)
 piece-colour : (v : ℕ) → goodPiece v ≡ true → goodColour (colourOf v) ≡ true
 unfolding goodColour
 piece-colour v g =
-    let k = piece-kind v g in
-    let some : v ≡ 0 → ⊥ = λ z. let none : kindOf v ≡ 0 = ap kindOf z ∙ black-kind 0 (omega arith) in omega arith in
-    ⊎-elim (λ (h : v ≤ 16). rw (black-colour v (positive v some) h)) (λ (h : 16 < v). rw (white-colour v h)) (le-or-lt v 16)
+    ⊎-elim (λ (h : v ≤ 16). rw (black-colour v (piece-low-bound v g) h)) (λ (h : 16 < v). rw (white-colour v h)) (le-or-lt v 16)
 
 -- ---- the sets of a sound position
 module _ (p : Position) (z : Sized p) (s : sound p ≡ true) where

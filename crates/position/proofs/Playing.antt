@@ -8,7 +8,7 @@ use native.Mathlib.Omega.{arith}
 use native.Mathlib.Decide.{ℕ-discrete}
 use lib.ListN.{length, getD, set}
 use lib.Dec.{eqb}
-use borrow.Author.Tests.{eq-eqb, ne-eqb, eqb-false, le-leb}
+use borrow.Author.Tests.{eq-eqb, ne-eqb, le-leb}
 use Rattle.squares.specs.declared.bitboard.Bitboard.{Bitboard}
 use Rattle.squares.specs.Kinds.{colourOf, kindOf, goodKind, goodPiece}
 use Rattle.squares.specs.Sets.{singleS, xorS}
@@ -23,7 +23,7 @@ use Rattle.position.specs.declared.answers.Answer.{Answer}
 use Rattle.position.specs.declared.mv.Move.{Move}
 use Rattle.position.specs.declared.mv.Move.the-variants.{Normal, Drop}
 use Rattle.position.proofs.Stores.{setsAfter, cell-same, cell-other, toggle-in, toggle-low, toggle-high}
-use Rattle.position.proofs.Pieces.{positive, colour-in}
+use Rattle.position.proofs.Pieces.{colour-in}
 use Rattle.position.proofs.Carrying.{carried}
 
 -- ---- a plan that does nothing

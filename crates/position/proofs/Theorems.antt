@@ -1,14 +1,14 @@
 -- What holds of make_move as it is defined: its numbers, refused calls, soundness, whole games; and the two given positions.
-use mathlib.Core.Path.{_≡_, refl, sym, ap, _∙_}
+use mathlib.Core.Path.{_≡_, refl, ap, _∙_}
 use mathlib.Core.Logic.{_⊎_, ⊎-elim}
-use Prim.Native.Nat.{ℕ, _+_, _-_, _≤_, _<_}
-use mathlib.Core.Bool.{Bool, true, false, not, cond}
+use Prim.Native.Nat.{ℕ, _+_, _-_}
+use mathlib.Core.Bool.{Bool, true, false, cond}
 use mathlib.Core.List.{List, [], _∷_}
 use native.Mathlib.Omega.{arith}
 use lib.ListN.{length, getD, set, replicate, length-set}
 use lib.Dec.{eqb, ltb}
-use borrow.Author.Tests.{eqb-true, eqb-false, ne-eqb, ltb-false, not-false}
-use Rattle.squares.specs.Board.{onBoard, fileOf, rankOf}
+use borrow.Author.Tests.{eqb-true, eqb-false, ne-eqb, ltb-false}
+use Rattle.squares.specs.Board.{fileOf, rankOf}
 use Rattle.squares.specs.Bit.{digit}
 use Rattle.squares.specs.Kinds.{kindRow, kinds, goodColour, goodCell, goodPiece, goodKind, handKind, colourOf, kindOf}
 use Rattle.squares.specs.Sets.{countOf, allGood}

@@ -1,10 +1,9 @@
 -- The plain machine of cells and hands, and the position that goes with it.
-use Prim.Native.Nat.{ℕ, zero, suc, _-_}
+use Prim.Native.Nat.{ℕ, _-_}
 use mathlib.Core.Path.{_≡_}
 use mathlib.Core.List.{List, [], _∷_}
 use lib.ListN.{length, getD, replicate}
 use lib.Dec.{eqb}
-use Rattle.squares.specs.declared.bitboard.Bitboard.{Bitboard}
 use Rattle.squares.specs.Board.{fileOf, rankOf}
 use Rattle.squares.specs.Kinds.{colourOf, kindOf}
 use Rattle.squares.specs.Sets.{firstOf}

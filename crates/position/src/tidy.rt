@@ -1,5 +1,4 @@
 // Whether the stored sets are those of the cells: the sets are built anew from the cells, and compared.
-ghost use mathlib.Core.Path.{_≡_};
 ghost use Rattle.position.specs.Inner.{AllClean, Compared, TidyTold};
 use crate::position::Position;
 use squares::Bitboard;

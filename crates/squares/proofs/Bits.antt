@@ -1,14 +1,14 @@
 -- The laws of `bit` and `word`: a bit of each machine operation, equality by bits, and the number of given bits.
 use mathlib.Core.Path.{_≡_, refl, sym, ap, ap₂, _∙_}
 use Prim.Native.Nat.{ℕ, zero, suc, _+_, _-_, _*_, _/_, _%_, _^_, _≤_, _<_, min, max}
-use mathlib.Core.Bool.{Bool, true, false, _&&_, _||_, not, Bool·beq, and-true, false≢true, true≢false}
+use mathlib.Core.Bool.{Bool, true, false, _&&_, _||_, not, Bool·beq, false≢true, true≢false}
 use mathlib.Core.Logic.{_⊎_, inl, inr}
 use native.Mathlib.Nat.{add-zero, add-suc, suc-add, mod-one, mul-one, one-mul, sub-zero, suc-sub-suc, mod-lt, pow-suc, div-one, zero-div, mod-eq-of-lt, mul-div-cancel, add-comm}
 use native.Mathlib.Omega.{arith}
 use native.Mathlib.Numerals.{add-one}
 use lib.Dec.{eqb, leb, ltb, leb·zero, leb·suc-zero, leb·suc-suc, eqb·zero-suc, eqb·suc-zero, eqb·suc-suc}
 use lib.Arith.{lt-one, digits-mod}
-use lib.Pow.{pow-pos, shr-shr, field, mod-mod-pow}
+use lib.Pow.{shr-shr, field, mod-mod-pow}
 use lib.Bits.{bitAnd, bitOr, bitXor, and-shr, or-shr, xor-shr, and-step, or-step, xor-step, differ, shifted-half, shifted-even}
 use borrow.Author.Tests.{lt-ltb, le-ltb}
 use Rattle.squares.specs.Bit.{odd, bit, digit, word, reversed9}
@@ -31,10 +31,6 @@ flip2 (suc (suc x)) h y e = absurd (omega arith)
 pub odd-join : (q d : ℕ) → d < 2 → odd (q * 2 + d) ≡ eqb d 1
 unfolding odd
 odd-join q d h = ap (λ (x : ℕ). eqb x 1) (digits-mod q h)
-
-odd-digit : (n : ℕ) → odd n ≡ eqb (n % 2) 1
-unfolding odd
-odd-digit n = refl
 
 -- what holds of the four pairs of digits
 digits4 : (P : ℕ → ℕ → Type 0) → P 0 0 → P 0 1 → P 1 0 → P 1 1 → (x y : ℕ) → x < 2 → y < 2 → P x y
@@ -136,10 +132,6 @@ bit-not zero (suc w) a h = rw (bit-zero, bit-zero, leb·suc-suc, leb·zero) (fli
 bit-not (suc i) (suc w) a h =
     bit-suc i (2 ^ suc w - 1 - a) ∙ ap (bit i) (omega (arith, pow-suc 2 w, h)) ∙ bit-not i w (a / 2) (omega (arith, pow-suc 2 w, h))
     ∙ sym (ap₂ (λ (s t : Bool). s && not t) (leb·suc-suc (suc i) w) (bit-suc i a))
-
-pub bit-ones : (i w : ℕ) → bit i (2 ^ w - 1) ≡ ltb i w
-bit-ones i w =
-    ap (bit i) (sym (sub-zero (2 ^ w - 1))) ∙ bit-not i w 0 (pow-pos w) ∙ ap (λ (t : Bool). ltb i w && not t) (bit-of-zero i) ∙ and-true (ltb i w)
 
 pub bit-pow : (i k : ℕ) → bit i (2 ^ k) ≡ eqb i k
 unfolding odd

@@ -68,11 +68,3 @@ module _ (s t : Bitboard) where
   exact-not-lo d =
       ⊎-elim (λ (e : exactly s t ≡ true). absurd (d (ap (λ (r : Bitboard). r .lo) (exactly-set e ∙ sym (masked t))))) (λ (e : exactly s t ≡ false). sym e)
       (decided (exactly s t))
-
--- ---- a set that is given by a rule has no stray bit
-module _ (s : Bitboard) (f : ℕ → Bool) where
-  pub exactly-rule : exactly s (setOf f) ≡ true → s ≡ setOf f
-  exactly-rule = exactly-same s (setOf f) (clean-setOf f)
-
-  pub exactly-no-rule : exactly s (setOf f) ≡ false → s ≡ setOf f → ⊥
-  exactly-no-rule = exactly-other s (setOf f) (clean-setOf f)

@@ -5,14 +5,13 @@ use mathlib.Core.Bool.{true, false}
 use mathlib.Core.List.{List}
 use native.Mathlib.Omega.{arith}
 use lib.Dec.{eqb}
-use lib.ListN.{length, getD, replicate, length-replicate, getD-replicate}
+use lib.ListN.{getD, replicate, length-replicate, getD-replicate}
 use borrow.Author.Tests.{ne-eqb}
-use Rattle.squares.specs.Sets.{setOf, clean, emptyS, exactly, cellAt, family}
+use Rattle.squares.specs.Sets.{setOf, clean, emptyS, cellAt, family}
 use Rattle.squares.specs.declared.bitboard.Bitboard.{Bitboard}
 use Rattle.squares.proofs.Lists.{getD-tab, is-tab}
 use Rattle.squares.proofs.Steps.{board-range}
 use Rattle.squares.proofs.Members.{setOf-cong, clean-setOf}
-use Rattle.squares.proofs.Exact.{exactly-same, exactly-other}
 use Rattle.squares.proofs.Rules.{empty-rule}
 
 module _ (mark : ℕ → ℕ) (count : ℕ) (cells : List ℕ) where
@@ -22,20 +21,6 @@ module _ (mark : ℕ → ℕ) (count : ℕ) (cells : List ℕ) where
 
   pub family-clean : (j : ℕ) (d : Bitboard) → j < count → clean (getD (family mark count cells) j d) ≡ true
   family-clean j d h = ap clean (family-at j d h) ∙ clean-setOf (λ n. eqb (mark (cellAt cells n)) (1 + j))
-
-  -- sets that are each exactly the family's are the family
-  pub family-same : (sets : List Bitboard) (d : Bitboard) → length sets ≡ count → ((j : ℕ) → j < count → exactly (getD sets j d) (getD (family mark count cells) j d) ≡ true)
-      → sets ≡ family mark count cells
-  unfolding family
-  family-same sets d l same =
-      is-tab sets (λ k. setOf (λ n. eqb (mark (cellAt cells n)) k)) count d l
-      (λ j h. exactly-same (getD sets j d) (getD (family mark count cells) j d) (family-clean j d h) (same j h) ∙ family-at j d h)
-
-  -- and where one is not, they are not
-  pub family-differs : (sets : List Bitboard) (j : ℕ) (d : Bitboard) → j < count → exactly (getD sets j d) (getD (family mark count cells) j d) ≡ false
-      → sets ≡ family mark count cells → ⊥
-  family-differs sets j d h f e =
-      exactly-other (getD sets j d) (getD (family mark count cells) j d) (family-clean j d h) f (ap (λ (l : List Bitboard). getD l j d) e)
 
 -- the sets of an empty board are empty, where an empty cell has no mark
 pub family-zeros : (mark : ℕ → ℕ) (count : ℕ) → mark 0 ≡ 0 → replicate count emptyS ≡ family mark count (replicate 81 0)

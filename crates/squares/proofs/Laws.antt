@@ -19,9 +19,9 @@ pub use Rattle.squares.proofs.Steps.{file-side, rank-side, at-back, at-
 pub use Rattle.squares.proofs.Steps.{step-off, step-zero, step-none, step-long, step-add, step-back, step-iff}
 pub use Rattle.squares.proofs.Members.{le-or-lt, has-setOf, setOf-cong, setOf-has, clean-setOf, clean-has, has-off, has-on, has-emptyS}
 pub use Rattle.squares.proofs.Rules.{empty-rule, single-rule, or-rules, and-rules, xor-rules, andnot-rules, not-rule, shift-rule}
-pub use Rattle.squares.proofs.Exact.{exactly-set, set-exactly, exactly-not, exactly-same, exactly-other, exactly-rule, exactly-no-rule}
-pub use Rattle.squares.proofs.Families.{family-at, family-clean, family-same, family-differs, family-zeros}
-pub use Rattle.squares.proofs.Marking.{all-good, good-all, marks-told, marks-refused, marks-number, marks-players, marks-kinds}
+pub use Rattle.squares.proofs.Exact.{exactly-set, set-exactly, exactly-not, exactly-same, exactly-other}
+pub use Rattle.squares.proofs.Families.{family-at, family-clean, family-zeros}
+pub use Rattle.squares.proofs.Marking.{all-good, good-all, marks-told, marks-refused, marks-players, marks-kinds}
 pub use Rattle.squares.proofs.Tests.{all, all-at, allFrom, rows-truth}
 pub use Rattle.squares.proofs.Counts.{count-same, count-add, count-sum, count-change, size-rule}
 pub use Rattle.squares.proofs.Least.{First, smallest-is, smallest-at, smallest-none, size-without, count-none, size-none, size-le, empty-size, empty-none, empty-some, empty-has}

@@ -164,10 +164,6 @@ module _ (cells : List ℕ) where
     unfolding marksAnswer
     marks-refused z = ⊎-elim (λ g. absurd (z (ap (λ (x : Marks). x .number) e ∙ rw g))) (λ b. b) (decided (allGood cells))
 
-    pub marks-number : allGood cells ≡ true → m .number ≡ 0
-    unfolding marksAnswer
-    marks-number g = ap (λ (x : Marks). x .number) e ∙ rw g
-
     pub marks-players : allGood cells ≡ true → m .players ≡ family colourOf 2 cells
     unfolding marksAnswer
     marks-players g = ap (λ (x : Marks). x .players) e ∙ rw g
