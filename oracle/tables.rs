@@ -1,7 +1,7 @@
-//! What the program `tables` must print: the calls that no case line reaches, for every number, and the inner step on a few
-//! moves, by shogi_core. Where the crate has no value for a number, ours answers 2 with 0.
+//! What the program `tables` must print: the calls that no case line reaches, for every number, by shogi_core. Where the crate
+//! has no value for a number, ours answers 2 with 0.
 
-use shogi_core::{Bitboard, Color, Hand, Move, PartialPosition, Piece, PieceKind, Square};
+use shogi_core::{Bitboard, Color, Hand, Piece, PieceKind, Square};
 
 fn main() {
     for n in 0..=255 {
@@ -31,44 +31,6 @@ fn main() {
         let first = (1_u128 << bit) & ((1 << 63) - 1);
         let second = (1_u128 << bit & ((1 << 18) - 1)) << 64;
         println!("{bit} {} {}", is_empty(first), is_empty(second));
-    }
-    let mut position = PartialPosition::startpos();
-    for mv in [
-        normal(61, 60, false),
-        normal(21, 22, false),
-        normal(71, 11, true),
-        normal(19, 11, false),
-        drop(6, 41),
-        normal(0, 41, false),
-        drop(17, 50),
-    ] {
-        // A move that cannot be named, or that is refused, leaves the position as it is, as does our step.
-        mv.and_then(|mv| position.make_move(mv));
-        let mut text = String::new();
-        position.to_sfen(&mut text).unwrap(); // a String takes every byte
-        println!(
-            "0 {text} {}",
-            position.last_move().map_or("0 0 0 0".into(), shown)
-        );
-    }
-}
-
-fn normal(from: u8, to: u8, promote: bool) -> Option<Move> {
-    let (from, to) = (Square::from_u8(from)?, Square::from_u8(to)?);
-    Some(Move::Normal { from, to, promote })
-}
-
-fn drop(cell: u8, to: u8) -> Option<Move> {
-    let (piece, to) = (piece(cell)?, Square::from_u8(to)?);
-    Some(Move::Drop { piece, to })
-}
-
-fn shown(mv: Move) -> String {
-    match mv {
-        Move::Normal { from, to, promote } => {
-            format!("1 {} {} {}", from.index(), to.index(), u8::from(promote))
-        }
-        Move::Drop { piece, to } => format!("2 {} {} 0", piece.as_u8(), to.index()),
     }
 }
 

@@ -1,6 +1,5 @@
 // Prints what the calls that no case line reaches answer, for every number. What it must print comes from the Rust.
 mod print;
-mod steps;
 
 use print::form;
 use print::number;
@@ -13,52 +12,51 @@ use squares::PieceKind;
 use squares::Square;
 
 fn main() {
+    let mut open = true;
     for n in 0..256u16 {
-        row((n % 256) as u8);
+        open = row(open, (n % 256) as u8);
     }
     for n in 0..64u8 {
-        made_piece(n / 4, n % 4);
+        open = made_piece(open, n / 4, n % 4);
     }
     for bit in 0..64u8 {
-        emptiness(bit);
+        open = emptiness(open, bit);
     }
-    steps::play();
 }
 
 // What each call makes of one number.
-fn row(n: u8) {
-    put(n as u64, b' ');
-    squares_and_kinds(n);
-    pieces(n);
+fn row(open: bool, n: u8) -> bool {
+    let open = put(open, n as u64, b' ');
+    pieces(squares_and_kinds(open, n), n)
 }
 
-fn squares_and_kinds(n: u8) {
-    number(Square::flip(n), b' ');
-    number(Color::flip(n), b' ');
-    form(PieceKind::hand_kind(n), b' ');
+fn squares_and_kinds(open: bool, n: u8) -> bool {
+    let open = number(open, Square::flip(n), b' ');
+    let open = number(open, Color::flip(n), b' ');
+    form(open, PieceKind::hand_kind(n), b' ')
 }
 
-fn pieces(n: u8) {
-    truth(Piece::is_good(n), b' ');
-    number(Piece::kind(n), b' ');
-    number(Piece::color(n), b' ');
-    form(Piece::promote(n), b' ');
-    number(Piece::unpromote(n), b'\n');
+fn pieces(open: bool, n: u8) -> bool {
+    let open = truth(open, Piece::is_good(n), b' ');
+    let open = number(open, Piece::kind(n), b' ');
+    let open = number(open, Piece::color(n), b' ');
+    let open = form(open, Piece::promote(n), b' ');
+    number(open, Piece::unpromote(n), b'\n')
 }
 
-fn made_piece(kind: u8, color: u8) {
-    put(kind as u64, b' ');
-    put(color as u64, b' ');
-    number(Piece::new(kind, color), b'\n');
+fn made_piece(open: bool, kind: u8, color: u8) -> bool {
+    let open = put(open, kind as u64, b' ');
+    let open = put(open, color as u64, b' ');
+    number(open, Piece::new(kind, color), b'\n')
 }
 
 // Whether the set of one bit is empty, in the first word and in the second: the stray bits are no squares.
-fn emptiness(bit: u8) {
+fn emptiness(open: bool, bit: u8) -> bool {
     let one: u64 = 1;
     let mask = one << (bit % 64);
     let first = Bitboard { lo: mask, hi: 0 };
     let second = Bitboard { lo: 0, hi: mask };
-    put(bit as u64, b' ');
-    truth(first.is_empty(), b' ');
-    truth(second.is_empty(), b'\n');
+    let open = put(open, bit as u64, b' ');
+    let open = truth(open, first.is_empty(), b' ');
+    truth(open, second.is_empty(), b'\n')
 }
