@@ -82,9 +82,17 @@ impl Gathered {
 // has so many.
 fn write_first(out: &Bytes, n: usize) -> bool {
     if ROOM <= n {
-        return io::write_all(1, out);
+        return noted(io::write_all(1, out));
     }
     let n = io::count(n as isize, out);
     let all: &[u8] = out;
-    io::write_all(1, &all[..n])
+    noted(io::write_all(1, &all[..n]))
+}
+
+// A program ends with 0 whatever it does: a line on standard error says that it failed.
+fn noted(written: bool) -> bool {
+    if !written {
+        io::write_all(2, b"cases: writing failed\n");
+    }
+    written
 }

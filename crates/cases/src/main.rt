@@ -61,11 +61,26 @@ fn main() {
 fn turn(state: State, nums: &mut Numbers, ans: &mut Numbers, out: &mut Bytes) -> State {
     let mut input = [0u8; ROOM];
     let got = libc::read(0, &mut input);
+    if got < 0 {
+        return unread(state);
+    }
     let n = io::count(got, &input);
     if n == 0 {
         return finish(state, nums, ans, out).written(out, false);
     }
     take_all(state, &input[..n], nums, ans, out).written(out, true)
+}
+
+// After a read that failed: what was read of a line is no line, and all answers are written.
+fn unread(state: State) -> State {
+    let line = state.line;
+    let gathered = state.gathered;
+    io::write_all(2, b"cases: reading failed\n");
+    State {
+        line,
+        gathered,
+        more: false,
+    }
 }
 
 // After the input: a last line without a newline is a line.

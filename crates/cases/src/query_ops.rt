@@ -5,7 +5,7 @@ use crate::numbers::byte;
 use position::KingAnswer;
 use position::KingSquare;
 use position::LastMove;
-use position::MoveNumbers;
+use position::Move;
 use position::NumberAnswer;
 use position::PieceAnswer;
 use position::PlyAnswer;
@@ -93,23 +93,36 @@ fn last_move(p: Position) -> Few {
     let answer = p.last_move();
     let told = answer.told;
     let last = answer.last;
-    let stored = stored(last);
+    match last {
+        LastMove::Nothing => of_last(told, 0, 0, 0, 0),
+        LastMove::Was(m) => of_move(told, m),
+    }
+}
+
+fn of_move(told: Told, m: Move) -> Few {
+    match m {
+        Move::Normal { from, to, promote } => of_last(
+            told,
+            1,
+            from,
+            to,
+            if promote { 1 } else { 0 },
+        ),
+        Move::Drop { piece, to } => of_last(told, 2, piece, to, 0),
+    }
+}
+
+// A last move as the four numbers of a line.
+fn of_last(told: Told, tag: u64, moved: u8, to: u8, promote: u64) -> Few {
     Few {
         count: 6,
         numbers: [
             told.number as u64,
             told.square as u64,
-            stored.tag as u64,
-            stored.a as u64,
-            stored.b as u64,
-            stored.promote as u64,
+            tag,
+            moved as u64,
+            to as u64,
+            promote,
         ],
-    }
-}
-
-fn stored(last: LastMove) -> MoveNumbers {
-    match last {
-        LastMove::Nothing => MoveNumbers::none(),
-        LastMove::Was(m) => MoveNumbers::of(m),
     }
 }
