@@ -5,6 +5,7 @@ use crate::notation::small;
 use crate::out::say;
 use crate::out::say_byte;
 use crate::out::say_number;
+use crate::text::say_part;
 use crate::text::text_of;
 use position::LastMove;
 use position::Move;
@@ -13,7 +14,6 @@ use squares::Bitboard;
 use squares::Color;
 use squares::Piece;
 use squares::PieceKind;
-use squares::Square;
 use squares::TruthAnswer;
 
 const SIZE: usize = 297;
@@ -65,7 +65,7 @@ pub fn show(p: Position) -> bool {
     let open = hand(open, p, Color::BLACK);
     let open = hand(open, p, Color::WHITE);
     let open = turn(open, p);
-    say_last(open, last)
+    say_part(say_last(open, last), &text, 0, 1)
 }
 
 // The pieces of a position's text, which stand before its first space.
@@ -194,17 +194,13 @@ fn say_move(open: bool, m: Move) -> bool {
 }
 
 fn say_square(open: bool, square: u8) -> bool {
-    let letters = [
-        coordinate(b"123456789", or_zero(Square::file(square))),
-        coordinate(b"abcdefghi", or_zero(Square::rank(square))),
-    ];
-    say(open, &letters)
-}
-
-fn coordinate(letters: &[u8; 9], n: u8) -> u8 {
-    match n {
-        1..=9 => letters[(n - 1) as usize],
-        _ => b'?',
+    match square {
+        1..=81 => {
+            let i = square - 1;
+            let letters = [b'1' + i / 9, b'a' + i % 9];
+            say(open, &letters)
+        }
+        _ => open,
     }
 }
 

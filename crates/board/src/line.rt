@@ -1,107 +1,131 @@
-// A line and its words.
+// A line word by word. A word is obeyed, or its number kept, when it ends, so that a line may be as long as a game.
 
-// The longest line.
-pub const ROOM: usize = 64;
+// The longest name of a command has ten letters, so a word of this many is none, and no more of it is kept.
+const ROOM: usize = 11;
 
-// The bytes of a line or of a word, with spaces behind them, and how many there are: one more than fit where there were more.
-pub struct Letters {
+// The letters of a word, with newlines behind them, and how many there are: one more than fit where there were more.
+pub struct Word {
     pub length: usize,
-    bytes: [u8; ROOM],
+    pub letters: [u8; 12],
 }
 
-impl Letters {
+impl Word {
     pub fn empty() -> Self {
         Self {
             length: 0,
-            bytes: [b' '; ROOM],
+            letters: [b'\n'; 12],
         }
     }
 
-    pub fn then(self, b: u8) -> Self {
+    fn then(self, b: u8) -> Self {
         let at = self.length;
-        let mut bytes = self.bytes;
+        let mut letters = self.letters;
         if at < ROOM {
-            bytes[at] = b;
+            letters[at] = b;
             return Self {
                 length: at + 1,
-                bytes,
+                letters,
             };
         }
         Self {
             length: ROOM + 1,
-            bytes,
+            letters,
         }
-    }
-
-    // One byte, counted from 0; a space past the end.
-    pub fn at(self, i: usize) -> u8 {
-        let bytes = self.bytes;
-        if i < ROOM { bytes[i] } else { b' ' }
     }
 }
 
-// How many words there are so far, whether the last goes on, and the one that is wanted.
-pub struct Words {
+// The command; how many words were taken, itself among them; the numbers of the first three behind it; the word that is being
+// read. Once a word is refused it stays there, with the line to say, and only whether something follows is noted.
+pub struct Line {
+    pub command: u8,
     pub count: usize,
-    within: bool,
-    pub wanted: Letters,
+    pub first: u32,
+    pub second: u32,
+    pub third: u32,
+    pub word: Word,
+    pub refused: u8,
+    pub followed: bool,
 }
 
-impl Words {
-    // The words of a line; the one at a place, counted from 1, is wanted.
-    pub fn of(line: Letters, place: usize) -> Self {
-        let mut words = Self {
-            count: 0,
-            within: false,
-            wanted: Letters::empty(),
-        };
-        for i in 0..ROOM {
-            words = words.then(line.at(i), place);
-        }
-        words
-    }
-
-    fn then(self, b: u8, place: usize) -> Self {
-        let wanted = self.wanted;
-        let count = if self.within || is_gap(b) {
-            self.count
-        } else {
-            up_to(self.count, ROOM)
-        };
+impl Line {
+    pub fn empty() -> Self {
         Self {
-            count,
-            within: !is_gap(b),
-            wanted: if is_gap(b) || count != place {
-                wanted
-            } else {
-                wanted.then(b)
-            },
+            command: 0,
+            count: 0,
+            first: 0,
+            second: 0,
+            third: 0,
+            word: Word::empty(),
+            refused: 0,
+            followed: false,
         }
     }
-}
 
-fn is_gap(b: u8) -> bool {
-    match b {
-        b' ' | b'\t' | b'\r' => true,
-        _ => false,
+    // With one more letter.
+    pub fn then(self, b: u8) -> Self {
+        let mut line = self;
+        if self.refused != 0 {
+            line.followed = true;
+            return line;
+        }
+        let word = self.word;
+        let longer = word.then(b);
+        line.word = longer;
+        line
+    }
+
+    // After the command.
+    pub fn begun(self, command: u8) -> Self {
+        let mut line = Self::empty();
+        line.command = command;
+        line.count = 1;
+        line
+    }
+
+    // After a word that is taken, with its number; there are no more than three to keep.
+    pub fn taken(self, number: u32) -> Self {
+        let mut line = self;
+        let count = self.count;
+        match count {
+            1 => line.first = number,
+            2 => line.second = number,
+            _ => line.third = number,
+        }
+        if count < usize::MAX {
+            line.count = count + 1;
+        }
+        let none = Word::empty();
+        line.word = none;
+        line
+    }
+
+    // After a word that is refused.
+    pub fn stopped(self, word: Word, why: u8) -> Self {
+        let mut line = self;
+        line.refused = why;
+        line.word = word;
+        line
     }
 }
 
-// One more, but no more than so many.
-fn up_to(n: usize, most: usize) -> usize {
-    if n < most { n + 1 } else { most }
-}
-
-// The place of a word among names that take nine bytes each, with at least one space behind the letters; 255
-// where it is none of them.
-pub fn place_in(names: &[u8], word: Letters) -> u8 {
+// The place of a word, counted from 1, among names that end in a newline each; 0 where it is none of them.
+pub fn place_in(names: &[u8], word: Word) -> u8 {
+    let letters = word.letters;
     let n = names.len();
-    let mut same = false;
+    let mut place = 1;
+    let mut at = 0;
+    let mut same = true;
     for i in 0..n {
-        same = names[i] == word.at(i % 9) && (same || i % 9 == 0);
-        if same && i % 9 == 8 {
-            return (i / 9 % 256) as u8;
+        same = same && names[i] == letters[at % 12];
+        at = at % 12 + 1;
+        if names[i] == b'\n' {
+            if same {
+                return place;
+            }
+            place = place % 255 + 1;
+            at = 0;
+            same = true;
         }
     }
-    255
+    0
 }

@@ -1,47 +1,67 @@
 // A shogi board to type at: reads commands on standard input, one a line, and answers each on standard output.
+mod changes;
 mod commands;
 mod diagram;
+mod game;
+mod lamps;
 mod line;
 mod notation;
 mod out;
 mod text;
 
 use commands::State;
-use commands::obey;
+use commands::end_line;
+use commands::end_word;
+use diagram::show;
+use out::say;
 use position::Position;
+use text::BYE;
+use text::GREETING;
+use text::say_line;
 
 const CHUNK: usize = 4096;
 
 // Nothing says that the input ends, so the loop counts its turns, from a number that no run uses up.
 fn main() {
-    let mut state = State::before(Position::startpos(), true);
+    let typed = libc::isatty(0) == 1;
+    let mut state = State::before(Position::startpos(), !typed || greet());
     let mut turns = u64::MAX;
-    while turns > 0 && state.more {
+    while turns > 0 && state.more && cue(typed) {
         turns -= 1;
-        state = turn(state);
+        state = turn(state, typed);
     }
+}
+
+fn greet() -> bool {
+    say_line(GREETING) && show(Position::startpos())
+}
+
+// What a person is shown before each line.
+fn cue(typed: bool) -> bool {
+    !typed || say(true, b"> ")
 }
 
 // One read, and the answers to the lines that end in it.
-fn turn(state: State) -> State {
+fn turn(state: State, typed: bool) -> State {
     let mut input = [0u8; CHUNK];
     let got = libc::read(0, &mut input);
-    let n = io::count(got, &input);
-    if n == 0 {
-        return finish(state);
+    if got <= 0 {
+        return finish(state, typed, got == 0);
     }
+    let n = io::count(got, &input);
     take_all(state, &input[..n])
 }
 
-// After the input: a last line without a newline is a line.
-fn finish(state: State) -> State {
-    let line = state.line;
-    let state = if line.length == 0 {
-        state
-    } else {
-        take(state, b'\n')
-    };
-    let position = state.position;
+// After the input: a last line without a newline is a line, and what a read that failed left is none.
+fn finish(state: State, typed: bool, whole: bool) -> State {
+    let last = if whole { take(state, b'\n') } else { state };
+    if !whole {
+        io::write_all(2, b"board: reading failed\n");
+    }
+    if typed && last.more {
+        say_line(BYE);
+    }
+    let position = last.position;
     State::before(position, false)
 }
 
@@ -59,12 +79,9 @@ fn take_all(state: State, bytes: &[u8]) -> State {
 fn take(state: State, b: u8) -> State {
     let position = state.position;
     let line = state.line;
-    if b != b'\n' {
-        return State {
-            position,
-            line: line.then(b),
-            more: true,
-        };
+    match b {
+        b'\n' => end_line(end_word(position, line)),
+        b' ' | b'\t' | b'\r' => end_word(position, line),
+        _ => State::within(position, line.then(b)),
     }
-    obey(position, line)
 }

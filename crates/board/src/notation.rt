@@ -1,5 +1,6 @@
-// Squares, pieces, moves and numbers as shogi programs write them: 7g, +p, 8h2b+, P*5e.
-use crate::line::Letters;
+// Squares, pieces, moves and numbers as shogi programs write them: 7g, +p, 8h2b+, P*5e. What a word stands for is a number below
+// MALFORMED.
+use crate::line::Word;
 use position::Move;
 use squares::Color;
 use squares::FormAnswer;
@@ -8,16 +9,8 @@ use squares::Piece;
 use squares::PieceKind;
 use squares::Square;
 
-// What a word stands for, or that it is not of the form.
-pub enum MaybeNumber {
-    Given(u8),
-    Malformed,
-}
-
-pub enum MaybePly {
-    Given(u16),
-    Malformed,
-}
+// For a word that is not of the form.
+pub const MALFORMED: u32 = 65536;
 
 pub enum MaybeMove {
     Given(Move),
@@ -32,35 +25,44 @@ pub fn or_zero(answer: NumberAnswer) -> u8 {
     }
 }
 
+// A number that was found to fit its place.
+pub fn byte(n: u32) -> u8 {
+    (n % 256) as u8
+}
+
+pub fn two_bytes(n: u32) -> u16 {
+    (n % 65536) as u16
+}
+
 // A digit and a small letter are a square: 0 where it is not on the board, which the calls refuse.
-fn square_of(file: u8, rank: u8) -> MaybeNumber {
+fn square_of(file: u8, rank: u8) -> u32 {
     match file {
         b'0'..=b'9' => match rank {
-            b'a'..=b'z' => {
-                MaybeNumber::Given(or_zero(Square::new(file - b'0', rank - b'a' + 1)))
-            }
-            _ => MaybeNumber::Malformed,
+            b'a'..=b'z' => or_zero(Square::new(file - b'0', rank - b'a' + 1)) as u32,
+            _ => MALFORMED,
         },
-        _ => MaybeNumber::Malformed,
+        _ => MALFORMED,
     }
 }
 
-pub fn square(word: Letters) -> MaybeNumber {
+pub fn square(word: Word) -> u32 {
     if word.length != 2 {
-        return MaybeNumber::Malformed;
+        return MALFORMED;
     }
-    square_of(word.at(0), word.at(1))
+    let w = word.letters;
+    square_of(w[0], w[1])
 }
 
 // b or w.
-pub fn color(word: Letters) -> MaybeNumber {
+pub fn color(word: Word) -> u32 {
     if word.length != 1 {
-        return MaybeNumber::Malformed;
+        return MALFORMED;
     }
-    match word.at(0) {
-        b'b' => MaybeNumber::Given(Color::BLACK),
-        b'w' => MaybeNumber::Given(Color::WHITE),
-        _ => MaybeNumber::Malformed,
+    let w = word.letters;
+    match w[0] {
+        b'b' => Color::BLACK as u32,
+        b'w' => Color::WHITE as u32,
+        _ => MALFORMED,
     }
 }
 
@@ -103,126 +105,101 @@ fn promoted(piece: u8) -> u8 {
 }
 
 // P, or +P; 0 for what is no piece.
-fn piece(word: Letters) -> u8 {
-    let n = word.length;
-    match n {
-        1 => colored(word.at(0)),
-        2 => {
-            if word.at(0) == b'+' {
-                return promoted(colored(word.at(1)));
-            }
-            0
-        }
-        _ => 0,
+fn piece(word: Word) -> u8 {
+    let w = word.letters;
+    if word.length == 1 {
+        return colored(w[0]);
     }
+    if word.length == 2 && w[0] == b'+' {
+        return promoted(colored(w[1]));
+    }
+    0
 }
 
 // 0 is none.
-fn given(n: u8) -> MaybeNumber {
-    if n == 0 {
-        return MaybeNumber::Malformed;
-    }
-    MaybeNumber::Given(n)
+fn given(n: u8) -> u32 {
+    if n == 0 { MALFORMED } else { n as u32 }
 }
 
 // A piece, or a point for the empty cell.
-pub fn cell(word: Letters) -> MaybeNumber {
-    if word.length == 1 && word.at(0) == b'.' {
-        return MaybeNumber::Given(0);
+pub fn cell(word: Word) -> u32 {
+    let w = word.letters;
+    if word.length == 1 && w[0] == b'.' {
+        return 0;
     }
     given(piece(word))
 }
 
 // The kind of a piece in either case.
-pub fn kind(word: Letters) -> MaybeNumber {
+pub fn kind(word: Word) -> u32 {
     given(or_zero(Piece::kind(piece(word))))
 }
 
-// The number so far with one more digit; 65536 and up for what is too large or no number.
-fn grown(value: u64, b: u8) -> u64 {
-    if 65535 < value {
-        return value;
+// A number below 65536 in decimal, of five digits at most.
+pub fn ply(word: Word) -> u32 {
+    let letters = word.letters;
+    if 5 < word.length {
+        return MALFORMED;
+    }
+    let mut value = 0;
+    for i in 0..5usize {
+        value = grown(value, letters[i]);
+    }
+    value
+}
+
+// The number so far with one more digit, where it stays a number; what is behind the word changes nothing.
+fn grown(value: u32, b: u8) -> u32 {
+    if MALFORMED <= value {
+        return MALFORMED;
     }
     match b {
-        b'0'..=b'9' => value * 10 + (b - b'0') as u64,
-        _ => 65536,
+        b'0'..=b'9' => up_to_malformed(value * 10 + (b - b'0') as u32),
+        b'\n' => value,
+        _ => MALFORMED,
     }
 }
 
-// A number below 65536 in decimal.
-pub fn ply(word: Letters) -> MaybePly {
-    let mut value: u64 = 0;
-    let n = word.length;
-    for i in 0..n {
-        value = grown(value, word.at(i));
-    }
-    if value < 65536 {
-        return MaybePly::Given(value as u16);
-    }
-    MaybePly::Malformed
+fn up_to_malformed(n: u32) -> u32 {
+    if n < MALFORMED { n } else { MALFORMED }
 }
 
 // A number below 256.
-pub fn count(word: Letters) -> MaybeNumber {
-    let MaybePly::Given(n) = ply(word) else {
-        return MaybeNumber::Malformed;
-    };
-    if n < 256 {
-        return MaybeNumber::Given(n as u8);
-    }
-    MaybeNumber::Malformed
+pub fn count(word: Word) -> u32 {
+    let n = ply(word);
+    if n < 256 { n } else { MALFORMED }
 }
 
-// A move of `side`: from, to and a + where it promotes; or a piece, * and where it is dropped.
-pub fn read_move(word: Letters, side: u8) -> MaybeMove {
+// A move of `side`: from, to and a + where it promotes; or a piece, * and where it is dropped. +P*5e is a move too, which the
+// call refuses.
+pub fn read_move(word: Word, side: u8) -> MaybeMove {
     let n = word.length;
-    match n {
-        4 => {
-            if word.at(1) == b'*' {
-                return dropped(
-                    piece_of(word.at(0), side),
-                    square_of(word.at(2), word.at(3)),
-                );
-            }
-            moved(word, false)
-        }
-        5 => {
-            if word.at(4) == b'+' {
-                return moved(word, true);
-            }
-            promoted_drop(word, side)
-        }
-        _ => MaybeMove::Malformed,
+    let w = word.letters;
+    if n == 4 && w[1] == b'*' {
+        return drop(piece_of(w[0], side), square_of(w[2], w[3]));
     }
-}
-
-fn moved(word: Letters, promote: bool) -> MaybeMove {
-    let MaybeNumber::Given(from) = square_of(word.at(0), word.at(1)) else {
-        return MaybeMove::Malformed;
-    };
-    let MaybeNumber::Given(to) = square_of(word.at(2), word.at(3)) else {
-        return MaybeMove::Malformed;
-    };
-    MaybeMove::Given(Move::Normal { from, to, promote })
-}
-
-// +P*5e, which the call refuses.
-fn promoted_drop(word: Letters, side: u8) -> MaybeMove {
-    if word.at(0) == b'+' && word.at(2) == b'*' {
-        return dropped(
-            promoted(piece_of(word.at(1), side)),
-            square_of(word.at(3), word.at(4)),
-        );
+    if n == 4 || n == 5 && w[4] == b'+' {
+        return normal(square_of(w[0], w[1]), square_of(w[2], w[3]), n == 5);
+    }
+    if n == 5 && w[0] == b'+' && w[2] == b'*' {
+        return drop(promoted(piece_of(w[1], side)), square_of(w[3], w[4]));
     }
     MaybeMove::Malformed
 }
 
-fn dropped(piece: u8, to: MaybeNumber) -> MaybeMove {
-    let MaybeNumber::Given(to) = to else {
-        return MaybeMove::Malformed;
-    };
-    if piece == 0 {
+fn normal(from: u32, to: u32, promote: bool) -> MaybeMove {
+    if from == MALFORMED || to == MALFORMED {
         return MaybeMove::Malformed;
     }
+    let from = byte(from);
+    let to = byte(to);
+    MaybeMove::Given(Move::Normal { from, to, promote })
+}
+
+fn drop(piece: u8, to: u32) -> MaybeMove {
+    if piece == 0 || to == MALFORMED {
+        return MaybeMove::Malformed;
+    }
+    let to = byte(to);
     MaybeMove::Given(Move::Drop { piece, to })
 }

@@ -1,12 +1,15 @@
-// The lines that are said whole: the answer numbers in the words of document 01, each at its own place from 0; the commands
-// in their order; and what else may be wrong with a line.
+// The lines that are said whole: the answer numbers in the words of document 01, each at its own place from 0; that a command is
+// unknown, and the commands in their order; and what else there is to say.
 ghost use Prim.Native.Nat.{_≤_};
 ghost use lib.ListN.{length};
+use crate::commands::HAND;
+use crate::commands::PLY;
+use crate::commands::PUT;
 use crate::out::say;
 use position::Position;
 use sfen::write_sfen;
 
-const TEXT: [u8; 1265] = *b"0: done
+const TEXT: [u8; 2024] = *b"0: done
 1: position not sound, with the square
 2: a number out of range: square, file, pattern, kind, colour, cell, shift, ply 0, hand kind
 3: nothing on the from square
@@ -20,42 +23,97 @@ const TEXT: [u8; 1265] = *b"0: done
 11: ply is already 65535
 12: lent buffer shorter than the text
 13: the edit would make the position unsound
-startpos: the start position
+unknown command: help lists them
+startpos, startpos 7g7f 3c3d: the start position, and moves from there
 empty: no piece, for put and hand to begin from
-move 7g7f, move 8h2b+ (promotes), move P*5e (drops): a move
-put 5e P, put 5e +p, put 5e . (nothing): changes one cell
-hand b P 2, hand w P 0: how many of a kind Black or White holds
+move 7g7f 3c3d, 7g7f alone, 8h2b+ (promotes), P*5e or p*5e (drops): moves, up to the first that is refused
+put 5e P, put 5e +p, put 5e . (nothing): changes one cell, upper case is Black's
+hand b P 2, hand w P 0: how many of a kind, in either case, Black or White holds
 side b, side w: who is to move
 ply 7: the number of the move to come, 1 to 65535
+position startpos, position startpos moves 7g7f 3c3d: as in USI
 sfen: the position as text
-show: the board, upper case is Black's
+show, d: the board, upper case is Black's, and its text
 lamps black (white, occupied, vacant), lamps P, lamps 7g (pieces like that one): a set of squares
 numbers: what the answer numbers mean
 help: these lines
 quit: ends the program, as ctrl-D does
-unknown command: help lists them
-a command is expected: help lists them
-line too long: help lists the commands
+usi: the program's name, as in USI
+isready: readyok, as in USI; usinewgame, setoption, gameover, ponderhit and stop are taken silently
 nothing stands there
+2: no such square: files are 1 to 9, ranks a to i
+2: no such kind in hand: P L N S G B R are held
+2: no such ply: the first is 1
+13: that would be a second king of one side
+13: that would be more of the kind than a full set has
+position sfen is not read yet: put, hand, side and ply set a position up
+this board makes no moves of its own
+id name Pulfredan
+id author the Pulfredan developers
+usiok
+readyok
+Pulfredan, a shogi board. Moves are typed as 7g7f; help lists all commands, quit ends.
 bye
 ";
 
-// Where the commands begin, the line for an unknown one, which stands behind them, and the others.
+// The line for an unknown command, behind which those of the commands stand, and the others.
 pub const FORMS: u8 = 14;
 
-pub const UNKNOWN: u8 = 27;
+pub const NOTHING_THERE: u8 = 31;
 
-pub const MISSING: u8 = 28;
+const NO_SQUARE: u8 = 32;
 
-pub const TOO_LONG: u8 = 29;
+const NEVER_HELD: u8 = 33;
 
-pub const NOTHING_THERE: u8 = 30;
+const NO_PLY: u8 = 34;
 
-pub const BYE: u8 = 31;
+const SECOND_KING: u8 = 35;
+
+const TOO_MANY: u8 = 36;
+
+pub const UNREAD: u8 = 37;
+
+pub const NO_PLAYER: u8 = 38;
+
+pub const USI_NAMES: u8 = 39;
+
+pub const READY: u8 = 42;
+
+pub const GREETING: u8 = 43;
+
+pub const BYE: u8 = 44;
+
+// A black and a white king.
+const KING: u8 = 8;
+
+const WHITE_KING: u8 = 24;
+
+// The line of a command's form.
+pub fn form_of(command: u8) -> u8 {
+    FORMS + command % 32
+}
+
+// The line for an answer number: 2 and 13 in words that fit the command, and the cell that it would have put.
+pub fn reason(number: u8, command: u8, cell: u8) -> u8 {
+    match number {
+        2 => match command {
+            HAND => NEVER_HELD,
+            PLY => NO_PLY,
+            _ => NO_SQUARE,
+        },
+        13 => {
+            if command == PUT && (cell == KING || cell == WHITE_KING) {
+                return SECOND_KING;
+            }
+            TOO_MANY
+        }
+        _ => number,
+    }
+}
 
 // Says one line; of a command, that its form is expected.
 pub fn say_line(line: u8) -> bool {
-    if FORMS <= line && line < UNKNOWN {
+    if FORMS < line && line < NOTHING_THERE {
         return say_lines(say(true, b"expected: "), line, 1);
     }
     say_lines(true, line, 1)
@@ -71,6 +129,12 @@ pub fn text_of(p: Position) -> [u8; 168] {
     let mut text = [b'\n'; 168];
     write_sfen(p, &mut text);
     text
+}
+
+// The same as a line of its own.
+pub fn say_text(open: bool, p: Position) -> bool {
+    let text = text_of(p);
+    say_part(open, &text, 0, 1)
 }
 
 // So many lines of a text, from one on.

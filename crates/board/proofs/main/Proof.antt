@@ -4,6 +4,6 @@ use Rattle.board.proofs.main.Tie as tie
 
 pub main-spec : {M : Type 1} → statement M
 main-spec =
-    tie.close (tie.spec (λ _ _ _ _. Unit) (λ _ _ _ turns. turns)
+    tie.close (tie.spec (λ _ _ _ _ _. Unit) (λ _ _ _ _ turns. turns)
     (search needs) (search needs) (search needs) (search needs) (search needs) (search needs) (search needs)
-    (search needs) (search needs))
+    (search needs) (search needs) (search needs) (search needs) (search needs) (search needs))

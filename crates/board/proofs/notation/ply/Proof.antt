@@ -5,6 +5,6 @@ use Rattle.board.proofs.notation.ply.Tie as tie
 
 pub ply-spec : {M : Type 1} → statement M
 ply-spec =
-    tie.close (tie.spec (λ _ _ _ _ _ _. Unit) (λ _ _ n _ _ i. n - i)
+    tie.close (tie.spec (λ _ _ _ _ _. Unit) (λ _ _ _ _ i. 5 - i)
     (search needs) (search needs) (search needs) (search needs) (search needs) (search needs) (search needs)
-    (search needs) (search needs))
+    (search needs))

@@ -1,0 +1,74 @@
+// Lines of moves: each is played when its word ends, up to the first that is refused.
+use crate::commands::MOVE;
+use crate::commands::NONE;
+use crate::commands::POSITION;
+use crate::commands::STARTPOS;
+use crate::commands::State;
+use crate::line::Line;
+use crate::line::Word;
+use crate::line::place_in;
+use crate::notation::MaybeMove;
+use crate::notation::read_move;
+use crate::out::say;
+use crate::out::say_number;
+use crate::text::FORMS;
+use crate::text::UNREAD;
+use crate::text::form_of;
+use crate::text::reason;
+use crate::text::say_part;
+use position::Position;
+
+// Whether the words behind the command, or without one, are moves.
+pub fn is_game(command: u8) -> bool {
+    match command {
+        NONE | STARTPOS | MOVE => true,
+        _ => false,
+    }
+}
+
+pub fn play(p: Position, line: Line, word: Word) -> State {
+    let MaybeMove::Given(m) = read_move(word, p.side) else {
+        return State::within(p, line.stopped(word, form_of(line.command)));
+    };
+    let answer = p.make_move(m);
+    let told = answer.told;
+    let position = answer.position;
+    if told.number != 0 {
+        return State::within(position, line.stopped(word, reason(told.number, MOVE, 0)));
+    }
+    State::within(position, line.taken(0))
+}
+
+// The words behind `position`: startpos, and then moves, behind which the line is one of moves. A text cannot be read back yet.
+pub fn start(p: Position, line: Line, word: Word) -> State {
+    let place = place_in(b"startpos\nmoves\nsfen\n", word);
+    if place == 1 && line.count == 1 {
+        return State::within(p, line.taken(0));
+    }
+    if place == 2 && line.count == 2 {
+        return State::within(Position::startpos(), line.begun(STARTPOS));
+    }
+    let why = if place == 3 {
+        UNREAD
+    } else {
+        form_of(POSITION)
+    };
+    State::within(p, line.stopped(word, why))
+}
+
+// Says of several moves which was refused; an unknown command is none.
+pub fn say_stop(open: bool, line: Line) -> bool {
+    let word = line.word;
+    let letters = word.letters;
+    let several = 1 < line.count || line.followed && line.refused != FORMS;
+    if !several || !is_game(line.command) {
+        return open;
+    }
+    let open = say_number(say(open, b"stopped at move "), line.count as u64);
+    say_word(say(open, b", "), &letters)
+}
+
+// A word's letters, to their newline.
+fn say_word(open: bool, letters: &[u8; 12]) -> bool {
+    say_part(open, letters, 0, 1)
+}
