@@ -129,7 +129,7 @@ pub fn end_word(p: Position, line: Line) -> State {
         return State::within(p, line);
     }
     if line.count == 0 {
-        return begin(p, line, word);
+        return begin(p, word);
     }
     if is_game(command) {
         return play(p, line, word);
@@ -141,9 +141,9 @@ pub fn end_word(p: Position, line: Line) -> State {
 }
 
 // The first word: a command, or else a move.
-fn begin(p: Position, line: Line, word: Word) -> State {
+fn begin(p: Position, word: Word) -> State {
     let command = command_of(word);
-    let begun = line.begun(command);
+    let begun = Line::begun(command);
     match command {
         NONE => play(p, begun, word),
         STARTPOS => State::within(Position::startpos(), begun),

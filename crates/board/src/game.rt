@@ -46,7 +46,7 @@ pub fn start(p: Position, line: Line, word: Word) -> State {
         return State::within(p, line.taken(0));
     }
     if place == 2 && line.count == 2 {
-        return State::within(Position::startpos(), line.begun(STARTPOS));
+        return State::within(Position::startpos(), Line::begun(STARTPOS));
     }
     let why = if place == 3 {
         UNREAD

@@ -75,7 +75,7 @@ impl Line {
     }
 
     // After the command.
-    pub fn begun(self, command: u8) -> Self {
+    pub fn begun(command: u8) -> Self {
         let mut line = Self::empty();
         line.command = command;
         line.count = 1;
