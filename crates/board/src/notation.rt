@@ -173,22 +173,32 @@ pub fn count(word: Word) -> u32 {
 // A move of `side`: from, to and a + where it promotes; or a piece, * and where it is dropped. +P*5e is a move too, which the
 // call refuses.
 pub fn read_move(word: Word, side: u8) -> MaybeMove {
-    let n = word.length;
     let w = word.letters;
-    if n == 4 && w[1] == b'*' {
-        return drop(piece_of(w[0], side), square_of(w[2], w[3]));
+    let n = word.length;
+    match n {
+        4 => {
+            if w[1] == b'*' {
+                return drop(piece_of(w[0], side), square_of(w[2], w[3]));
+            }
+            normal(word, false)
+        }
+        5 => {
+            if w[0] == b'+' && w[2] == b'*' {
+                return drop(promoted(piece_of(w[1], side)), square_of(w[3], w[4]));
+            }
+            normal(word, w[4] == b'+')
+        }
+        _ => MaybeMove::Malformed,
     }
-    if n == 4 || n == 5 && w[4] == b'+' {
-        return normal(square_of(w[0], w[1]), square_of(w[2], w[3]), n == 5);
-    }
-    if n == 5 && w[0] == b'+' && w[2] == b'*' {
-        return drop(promoted(piece_of(w[1], side)), square_of(w[3], w[4]));
-    }
-    MaybeMove::Malformed
 }
 
-fn normal(from: u32, to: u32, promote: bool) -> MaybeMove {
-    if from == MALFORMED || to == MALFORMED {
+// The first four letters, and behind them nothing or a + that promotes.
+fn normal(word: Word, promote: bool) -> MaybeMove {
+    let w = word.letters;
+    let from = square_of(w[0], w[1]);
+    let to = square_of(w[2], w[3]);
+    let whole = word.length == 4 || promote;
+    if from == MALFORMED || to == MALFORMED || !whole {
         return MaybeMove::Malformed;
     }
     let from = byte(from);
