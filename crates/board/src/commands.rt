@@ -124,31 +124,30 @@ impl State {
 // Obeys the word that ends here, if there is one, or keeps its number.
 pub fn end_word(p: Position, line: Line) -> State {
     let word = line.word;
-    let command = line.command;
     if word.length == 0 || line.refused != 0 {
         return State::within(p, line);
     }
-    if line.count == 0 {
-        return begin(p, word);
-    }
-    if is_game(command) {
+    if line.count != 0 && is_game(line.command) {
         return play(p, line, word);
     }
-    if command == POSITION {
-        return start(p, line, word);
+    let next = next(line, word);
+    let command = next.command;
+    match command {
+        NONE => play(p, next, word),
+        STARTPOS => State::within(Position::startpos(), next),
+        _ => State::within(p, next),
     }
-    State::within(p, noted(line, word))
 }
 
-// The first word: a command, or else a move.
-fn begin(p: Position, word: Word) -> State {
-    let command = command_of(word);
-    let begun = Line::begun(command);
-    match command {
-        NONE => play(p, begun, word),
-        STARTPOS => State::within(Position::startpos(), begun),
-        _ => State::within(p, begun),
+// The line after a word that is no move yet: it has no command where that word is none.
+fn next(line: Line, word: Word) -> Line {
+    if line.count == 0 {
+        return Line::begun(command_of(word));
     }
+    if line.command == POSITION {
+        return start(line, word);
+    }
+    noted(line, word)
 }
 
 fn command_of(word: Word) -> u8 {
@@ -159,7 +158,7 @@ fn command_of(word: Word) -> u8 {
 // The line with the word's number, or stopped.
 fn noted(line: Line, word: Word) -> Line {
     let number = number_of(line.command, line.count, word);
-    if number == MALFORMED {
+    if MALFORMED <= number {
         return line.stopped(word, form_of(line.command));
     }
     line.taken(number)

@@ -64,7 +64,7 @@ pub fn show(p: Position) -> bool {
     let open = say(true, &grid);
     let open = hand(open, p, Color::BLACK);
     let open = hand(open, p, Color::WHITE);
-    let open = turn(open, p);
+    let open = turn(open, p.side, p.ply);
     say_part(say_last(open, last), &text, 0, 1)
 }
 
@@ -164,11 +164,9 @@ fn held(open: bool, count: u8, letter: u8) -> bool {
     say_byte(open, letter)
 }
 
-fn turn(open: bool, p: Position) -> bool {
-    let side = p.side_to_move();
-    let ply = p.ply();
-    let open = say(say_color(open, side.value), b" to move, ply ");
-    say(say_number(open, ply.ply as u64), b"\n")
+fn turn(open: bool, side: u8, ply: u16) -> bool {
+    let open = say(say_color(open, side), b" to move, ply ");
+    say(say_number(open, ply as u64), b"\n")
 }
 
 // The last move in the notation in which it is typed.

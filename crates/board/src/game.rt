@@ -39,21 +39,24 @@ pub fn play(p: Position, line: Line, word: Word) -> State {
     State::within(position, line.taken(0))
 }
 
-// The words behind `position`: startpos, and then moves, behind which the line is one of moves. A text cannot be read back yet.
-pub fn start(p: Position, line: Line, word: Word) -> State {
+// The words behind `position`: startpos, and then moves, from where the line is as one of `startpos`. A text cannot be read back
+// yet.
+pub fn start(line: Line, word: Word) -> Line {
     let place = place_in(b"startpos\nmoves\nsfen\n", word);
     if place == 1 && line.count == 1 {
-        return State::within(p, line.taken(0));
+        return line.taken(0);
     }
     if place == 2 && line.count == 2 {
-        return State::within(Position::startpos(), Line::begun(STARTPOS));
+        return Line::begun(STARTPOS);
     }
-    let why = if place == 3 {
-        UNREAD
-    } else {
-        form_of(POSITION)
-    };
-    State::within(p, line.stopped(word, why))
+    line.stopped(
+        word,
+        if place == 3 {
+            UNREAD
+        } else {
+            form_of(POSITION)
+        },
+    )
 }
 
 // Says of several moves which was refused; an unknown command is none.

@@ -116,9 +116,10 @@ pub fn place_in(names: &[u8], word: Word) -> u8 {
     let mut at = 0;
     let mut same = true;
     for i in 0..n {
-        same = same && names[i] == letters[at % 12];
+        let b = names[i];
+        same = same && b == letters[at % 12];
         at = at % 12 + 1;
-        if names[i] == b'\n' {
+        if b == b'\n' {
             if same {
                 return place;
             }

@@ -45,24 +45,24 @@ fn cue(typed: bool) -> bool {
 fn turn(state: State, typed: bool) -> State {
     let mut input = [0u8; CHUNK];
     let got = libc::read(0, &mut input);
-    if got <= 0 {
-        return finish(state, typed, got == 0);
-    }
     let n = io::count(got, &input);
+    if n == 0 {
+        return finish(state, typed, got < 0);
+    }
     take_all(state, &input[..n])
 }
 
-// After the input: a last line without a newline is a line, and what a read that failed left is none.
-fn finish(state: State, typed: bool, whole: bool) -> State {
-    let last = if whole { take(state, b'\n') } else { state };
-    if !whole {
+// After the input: a last line without a newline is a line, but not what a read that failed cut short.
+fn finish(state: State, typed: bool, failed: bool) -> State {
+    if failed {
         io::write_all(2, b"board: reading failed\n");
+        return State::before(state.position, false);
     }
+    let last = take(state, b'\n');
     if typed && last.more {
         say_line(BYE);
     }
-    let position = last.position;
-    State::before(position, false)
+    State::before(last.position, false)
 }
 
 fn take_all(state: State, bytes: &[u8]) -> State {

@@ -9,7 +9,7 @@ use squares::Piece;
 use squares::PieceKind;
 use squares::Square;
 
-// For a word that is not of the form.
+// For a word that is not of the form; some have a larger number.
 pub const MALFORMED: u32 = 65536;
 
 pub enum MaybeMove {
@@ -135,7 +135,7 @@ pub fn kind(word: Word) -> u32 {
     given(or_zero(Piece::kind(piece(word))))
 }
 
-// A number below 65536 in decimal, of five digits at most.
+// A number in decimal, of five digits at most.
 pub fn ply(word: Word) -> u32 {
     let letters = word.letters;
     if 5 < word.length {
@@ -148,20 +148,16 @@ pub fn ply(word: Word) -> u32 {
     value
 }
 
-// The number so far with one more digit, where it stays a number; what is behind the word changes nothing.
+// The number so far with one more digit, or with what is behind the word, which changes nothing.
 fn grown(value: u32, b: u8) -> u32 {
     if MALFORMED <= value {
-        return MALFORMED;
+        return value;
     }
     match b {
-        b'0'..=b'9' => up_to_malformed(value * 10 + (b - b'0') as u32),
+        b'0'..=b'9' => value * 10 + (b - b'0') as u32,
         b'\n' => value,
         _ => MALFORMED,
     }
-}
-
-fn up_to_malformed(n: u32) -> u32 {
-    if n < MALFORMED { n } else { MALFORMED }
 }
 
 // A number below 256.

@@ -7,4 +7,4 @@ pub place-in-spec : {M : Type 1} → statement M
 place-in-spec =
     tie.close (tie.spec (λ _ _ _ _ _ _ _ _ _ _ _. Unit) (λ _ _ n _ _ _ _ _ _ _ i. n - i)
     (search needs) (search needs) (search needs) (search needs) (search needs) (search needs) (search needs)
-    (search needs) (search needs) (search needs) (search needs))
+    (search needs) (search needs) (search needs))
