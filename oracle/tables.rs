@@ -1,21 +1,26 @@
 //! What the program `tables` must print: the calls that no case line reaches, for every number, by shogi_core. Where the crate
 //! has no value for a number, ours answers 2 with 0.
 
-use shogi_core::{Bitboard, Color, Hand, Piece, PieceKind, Square};
+use shogi_core::{Bitboard, Color, Hand, PartialPosition, Piece, PieceKind, Square};
 
 fn main() {
     for n in 0..=255 {
         let piece = piece(n);
         let fields = [
+            truth(Square::from_u8(n).is_some()),
             number(Square::from_u8(n).map(|square| square.flip().index())),
+            truth(color(n).is_some()),
             number(color(n).map(|color| color_number(color.flip()))),
+            truth(PieceKind::from_u8(n).is_some()),
             form(PieceKind::from_u8(n).map(hand_kind)),
-            u8::from(n == 0 || piece.is_some()).to_string(),
+            truth(n == 0 || piece.is_some()),
+            truth(piece.is_some()),
             number(piece.map(|piece| piece.piece_kind() as u8)),
             number(piece.map(|piece| color_number(piece.color()))),
             form(piece.map(|piece| piece.promote().map(Piece::as_u8))),
             // The crate says None of a piece that is not promoted; ours is then the piece itself.
             number(piece.map(|piece| piece.unpromote().unwrap_or(piece).as_u8())),
+            covered(n, piece),
         ];
         println!("{n} {}", fields.join(" "));
     }
@@ -30,8 +35,25 @@ fn main() {
         // The stray bits are dropped, as document 01 says; the crate would count them.
         let first = (1_u128 << bit) & ((1 << 63) - 1);
         let second = (1_u128 << bit & ((1 << 18) - 1)) << 64;
-        println!("{bit} {} {}", is_empty(first), is_empty(second));
+        // A set is exactly itself unless its one bit was dropped.
+        let exactly = [first, second].map(|words| u8::from(words != 0));
+        println!("{bit} {} {} {} {}", is_empty(first), is_empty(second), exactly[0], exactly[1]);
     }
+}
+
+fn truth(value: bool) -> String {
+    u8::from(value).to_string()
+}
+
+/// A board with one cell everywhere: the answer number, and how many squares are Black's and White's.
+fn covered(cell: u8, piece: Option<Piece>) -> String {
+    let mut position = PartialPosition::empty();
+    for square in Square::all() {
+        position.piece_set(square, piece);
+    }
+    let bad = cell != 0 && piece.is_none();
+    let [black, white] = Color::all().map(|color| position.player_bitboard(color).count());
+    format!("{} {black} {white}", if bad { 2 } else { 0 })
 }
 
 fn number(value: Option<u8>) -> String {

@@ -11,8 +11,8 @@ use crate::text::NOTHING_THERE;
 use crate::text::reason;
 use crate::text::say_line;
 use position::Position;
-use position::SetAnswer;
 use position::Stands;
+use position::ToldSet;
 use squares::Color;
 
 // What a set's word stands for: a square as it is, a kind above KINDS, and above NAMED a colour, the occupied or the vacant squares.
@@ -58,7 +58,7 @@ fn lamps_at(p: Position, square: u8) -> bool {
 }
 
 // A set, or why there is none.
-fn light(answer: SetAnswer) -> bool {
+fn light(answer: ToldSet) -> bool {
     let told = answer.told;
     let set = answer.set;
     if told.number != 0 {

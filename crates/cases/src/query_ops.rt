@@ -2,17 +2,17 @@
 use crate::numbers::Args;
 use crate::numbers::Few;
 use crate::numbers::byte;
-use position::KingAnswer;
 use position::KingSquare;
 use position::LastMove;
 use position::Move;
-use position::NumberAnswer;
-use position::PieceAnswer;
-use position::PlyAnswer;
 use position::Position;
-use position::SetAnswer;
 use position::Stands;
 use position::Told;
+use position::ToldKing;
+use position::ToldNumber;
+use position::ToldPiece;
+use position::ToldPly;
+use position::ToldSet;
 
 pub fn answer(op: u64, p: Position, args: Args) -> Few {
     let n = byte(args.a);
@@ -28,7 +28,7 @@ pub fn answer(op: u64, p: Position, args: Args) -> Few {
     }
 }
 
-fn set(op: u64, p: Position, n: u8) -> SetAnswer {
+fn set(op: u64, p: Position, n: u8) -> ToldSet {
     match op {
         24 => p.player_bitboard(n),
         25 => p.piece_kind_bitboard(n),
@@ -52,7 +52,7 @@ fn of_value(told: Told, value: u64) -> Few {
     }
 }
 
-fn of_set(answer: SetAnswer) -> Few {
+fn of_set(answer: ToldSet) -> Few {
     let told = answer.told;
     let set = answer.set;
     Few {
@@ -61,17 +61,17 @@ fn of_set(answer: SetAnswer) -> Few {
     }
 }
 
-fn of_number(answer: NumberAnswer) -> Few {
+fn of_number(answer: ToldNumber) -> Few {
     let told = answer.told;
     of_value(told, answer.value as u64)
 }
 
-fn of_ply(answer: PlyAnswer) -> Few {
+fn of_ply(answer: ToldPly) -> Few {
     let told = answer.told;
     of_value(told, answer.ply as u64)
 }
 
-fn of_piece(answer: PieceAnswer) -> Few {
+fn of_piece(answer: ToldPiece) -> Few {
     let told = answer.told;
     let stands = answer.stands;
     match stands {
@@ -80,7 +80,7 @@ fn of_piece(answer: PieceAnswer) -> Few {
     }
 }
 
-fn of_king(answer: KingAnswer) -> Few {
+fn of_king(answer: ToldKing) -> Few {
     let told = answer.told;
     let king = answer.king;
     match king {
