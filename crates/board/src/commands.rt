@@ -1,9 +1,12 @@
 // The commands: which one a line gives, and what is done when a word ends and when the line does.
 use crate::changes::change;
-use crate::changes::settle;
 use crate::diagram::show;
+use crate::game::PLAY;
+use crate::game::RESET;
+use crate::game::WAIT;
+use crate::game::after;
 use crate::game::is_game;
-use crate::game::play;
+use crate::game::obey;
 use crate::game::say_stop;
 use crate::game::start;
 use crate::lamps::lamp;
@@ -12,6 +15,7 @@ use crate::line::Line;
 use crate::line::Word;
 use crate::line::place_in;
 use crate::notation::MALFORMED;
+use crate::notation::byte;
 use crate::notation::cell;
 use crate::notation::color;
 use crate::notation::count;
@@ -24,6 +28,7 @@ use crate::text::NO_PLAYER;
 use crate::text::READY;
 use crate::text::USI_NAMES;
 use crate::text::form_of;
+use crate::text::reason;
 use crate::text::say_line;
 use crate::text::say_lines;
 use crate::text::say_text;
@@ -124,30 +129,38 @@ impl State {
 // Obeys the word that ends here, if there is one, or keeps its number.
 pub fn end_word(p: Position, line: Line) -> State {
     let word = line.word;
-    if word.length == 0 || line.refused != 0 {
-        return State::within(p, line);
-    }
-    if line.count != 0 && is_game(line.command) {
-        return play(p, line, word);
-    }
     let next = next(line, word);
-    let command = next.command;
-    match command {
-        NONE => play(p, next, word),
-        STARTPOS => State::within(Position::startpos(), next),
-        _ => State::within(p, next),
-    }
+    let answer = obey(p, word, next.order);
+    let told = answer.told;
+    let position = answer.position;
+    State::within(position, after(next, word, told.number))
 }
 
-// The line after a word that is no move yet: it has no command where that word is none.
+// The line with what the word orders.
 fn next(line: Line, word: Word) -> Line {
+    if word.length == 0 || line.refused != 0 {
+        return line.ordered(WAIT);
+    }
     if line.count == 0 {
-        return Line::begun(command_of(word));
+        return begin(command_of(word));
+    }
+    if is_game(line.command) {
+        return line.ordered(PLAY);
     }
     if line.command == POSITION {
         return start(line, word);
     }
     noted(line, word)
+}
+
+// After the first word: a command, or else a move.
+fn begin(command: u8) -> Line {
+    let line = Line::begun(command);
+    match command {
+        NONE => line.ordered(PLAY),
+        STARTPOS => line.ordered(RESET),
+        _ => line,
+    }
 }
 
 fn command_of(word: Word) -> u8 {
@@ -197,22 +210,30 @@ fn only_number_of(command: u8, word: Word) -> u32 {
     }
 }
 
-// Answers the line that ends here; an empty one asks for nothing.
+// Answers the line that ends here.
 pub fn end_line(state: State) -> State {
-    let p = state.position;
     let line = state.line;
+    let fault = fault_of(line.refused, line.count, line.command);
+    let command = if fault == 0 { line.command } else { NONE };
+    let answer = change(command, state.position, line);
+    let told = answer.told;
+    let position = answer.position;
+    State::before(position, said(position, line, fault, told.number))
+}
+
+// Says what there is to say of a line; an empty one asks for nothing.
+fn said(p: Position, line: Line, fault: u8, number: u8) -> bool {
     let command = line.command;
-    let fault = fault_of(line.refused, line.count, command);
     if line.count == 0 {
-        return State::before(p, true);
+        return true;
     }
     if fault != 0 {
-        return State::before(p, say_stop(say_line(fault), line));
+        return say_stop(say_line(fault), line);
     }
     if SFEN <= command {
-        return State::before(p, tell(command, p, line.first));
+        return tell(command, p, line.first);
     }
-    settle(change(p, line), line)
+    say_line(reason(number, command, byte(line.second)))
 }
 
 // The line that says why a word was refused or that the words are too few, or 0.

@@ -1,9 +1,9 @@
 // Lines of moves: each is played when its word ends, up to the first that is refused.
+use crate::changes::answer;
 use crate::commands::MOVE;
 use crate::commands::NONE;
 use crate::commands::POSITION;
 use crate::commands::STARTPOS;
-use crate::commands::State;
 use crate::line::Line;
 use crate::line::Word;
 use crate::line::place_in;
@@ -16,7 +16,18 @@ use crate::text::UNREAD;
 use crate::text::form_of;
 use crate::text::reason;
 use crate::text::say_part;
+use position::Answer;
 use position::Position;
+
+// What a word orders: nothing, the start position, or that it be played as a move.
+pub const WAIT: u8 = 0;
+
+pub const RESET: u8 = 1;
+
+pub const PLAY: u8 = 2;
+
+// The answer to a word that is no move; no call gives it.
+const NO_MOVE: u8 = 255;
 
 // Whether the words behind the command, or without one, are moves.
 pub fn is_game(command: u8) -> bool {
@@ -26,17 +37,32 @@ pub fn is_game(command: u8) -> bool {
     }
 }
 
-pub fn play(p: Position, line: Line, word: Word) -> State {
-    let MaybeMove::Given(m) = read_move(word, p.side) else {
-        return State::within(p, line.stopped(word, form_of(line.command)));
-    };
-    let answer = p.make_move(m);
-    let told = answer.told;
-    let position = answer.position;
-    if told.number != 0 {
-        return State::within(position, line.stopped(word, reason(told.number, MOVE, 0)));
+// Carries out what a word orders.
+pub fn obey(p: Position, word: Word, order: u8) -> Answer {
+    match order {
+        RESET => answer(Position::startpos(), 0),
+        PLAY => play(p, word),
+        _ => answer(p, 0),
     }
-    State::within(position, line.taken(0))
+}
+
+fn play(p: Position, word: Word) -> Answer {
+    let MaybeMove::Given(m) = read_move(word, p.side) else {
+        return answer(p, NO_MOVE);
+    };
+    p.make_move(m)
+}
+
+// The line after a word's order was answered by a number.
+pub fn after(line: Line, word: Word, number: u8) -> Line {
+    if line.order != PLAY {
+        return line.ordered(WAIT);
+    }
+    match number {
+        0 => line.taken(0),
+        NO_MOVE => line.stopped(word, form_of(line.command)),
+        _ => line.stopped(word, reason(number, MOVE, 0)),
+    }
 }
 
 // The words behind `position`: startpos, and then moves, from where the line is as one of `startpos`. A text cannot be read back
@@ -47,7 +73,7 @@ pub fn start(line: Line, word: Word) -> Line {
         return line.taken(0);
     }
     if place == 2 && line.count == 2 {
-        return Line::begun(STARTPOS);
+        return Line::begun(STARTPOS).ordered(RESET);
     }
     line.stopped(
         word,

@@ -13,9 +13,9 @@ use crate::text::say_line;
 use position::Position;
 use position::Stands;
 use position::ToldSet;
-use squares::Color;
 
-// What a set's word stands for: a square as it is, a kind above KINDS, and above NAMED a colour, the occupied or the vacant squares.
+// What a set's word stands for: a square as it is, a kind above KINDS, and above NAMED the two colours by their numbers,
+// the occupied and the vacant squares.
 const KINDS: u32 = 100;
 
 const NAMED: u32 = 200;
@@ -34,8 +34,7 @@ pub fn lamp(word: Word) -> u32 {
 
 pub fn lamps(p: Position, set: u32) -> bool {
     match set {
-        201 => light(p.player_bitboard(Color::BLACK)),
-        202 => light(p.player_bitboard(Color::WHITE)),
+        201 | 202 => light(p.player_bitboard(byte(set - NAMED))),
         203 => light(p.occupied_bitboard()),
         204 => light(p.vacant_bitboard()),
         101..=199 => light(p.piece_kind_bitboard(byte(set - KINDS))),

@@ -35,7 +35,8 @@ impl Word {
 }
 
 // The command; how many words were taken, itself among them; the numbers of the first three behind it; the word that is being
-// read. Once a word is refused it stays there, with the line to say, and only whether something follows is noted.
+// read, and what it orders. Once a word is refused it stays there, with the line to say, and only whether something follows is
+// noted.
 pub struct Line {
     pub command: u8,
     pub count: usize,
@@ -45,6 +46,7 @@ pub struct Line {
     pub word: Word,
     pub refused: u8,
     pub followed: bool,
+    pub order: u8,
 }
 
 impl Line {
@@ -58,6 +60,7 @@ impl Line {
             word: Word::empty(),
             refused: 0,
             followed: false,
+            order: 0,
         }
     }
 
@@ -104,6 +107,12 @@ impl Line {
         let mut line = self;
         line.refused = why;
         line.word = word;
+        line
+    }
+
+    pub fn ordered(self, order: u8) -> Self {
+        let mut line = self;
+        line.order = order;
         line
     }
 }
