@@ -5,7 +5,7 @@
  * one square to another, or from a hand to a square.
  *
  * The archive (`rt staticlib firmware`) is code for x86-64, with the calling convention of Linux there. It needs one function of its host,
- * memcpy, keeps nothing between calls, and may run freestanding. Of stack a call takes up to 3.1 kB, as measured: keep 4 kB free.
+ * memcpy, keeps nothing between calls, and may run freestanding. Of stack a call takes up to 3.6 kB, as measured: keep 4 kB free.
  *
  * What the host owes, and nothing can check: a pointer to a position is not null, is aligned as its type, and points to a whole
  * position that no other part of the program writes during the call (nor reads, where the call changes it). The same holds of a lent buffer
