@@ -56,7 +56,7 @@ fn play(p: Position, word: Word) -> Answer {
 // The line after a word's order was answered by a number.
 pub fn after(line: Line, word: Word, number: u8) -> Line {
     if line.order != PLAY {
-        return line.ordered(WAIT);
+        return line;
     }
     match number {
         0 => line.taken(0),
