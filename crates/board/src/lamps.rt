@@ -3,7 +3,6 @@ use crate::commands::PUT;
 use crate::diagram::show_lamps;
 use crate::line::Word;
 use crate::line::place_in;
-use crate::notation::MALFORMED;
 use crate::notation::byte;
 use crate::notation::kind;
 use crate::notation::square;
