@@ -47,13 +47,13 @@ fn of_color(color: u8, black: u8, white: u8) -> u8
     if color == 1 { black } else { white }
 }
 
-fn king_at(q: u8) -> KingSquare
-    ensures { λ r. ⌜ r ≡ kingAt q ⌝ }
+fn king_at(square: u8) -> KingSquare
+    ensures { λ r. ⌜ r ≡ kingAt square ⌝ }
 {
-    if q == 0 {
+    if square == 0 {
         KingSquare::Nothing
     } else {
-        KingSquare::At(q)
+        KingSquare::At(square)
     }
 }
 

@@ -3,17 +3,16 @@ use Prim.Native.Nat.{ℕ}
 use Prim.Native.Char.{code}
 use Prim.Native.String.{String, [] as ε, _∷_ as _▸_}
 use mathlib.Core.Path.{_≡_, refl, ap, ap₂}
-use mathlib.Core.Bool.{Bool, true, false, _||_}
+use mathlib.Core.Bool.{true, false}
 use mathlib.Core.List.{List, [], _∷_, map}
-use lib.Dec.{eqb}
 use lib.ListN.{replicate, set}
-use Rattle.squares.specs.Bit.{odd, bit, digit, word}
-use Rattle.squares.specs.Board.{onSide, onBoard, squareAt, fileOf, rankOf, flipTo, fileStep, rankStep, step}
+use Rattle.squares.specs.Bit.{digit}
+use Rattle.squares.specs.Board.{onSide, onBoard, squareAt, fileOf, rankOf}
 use Rattle.squares.specs.Kinds.{kindRow, kinds, goodColour, goodCell, goodPiece, goodKind, handKind, otherColour, colourOf, kindOf, promotedPiece, pieceOf}
-use Rattle.squares.specs.Sets.{has, setOf, emptyS, notS, countOf, size, isEmpty, flipS, firstOf, smallest, withoutS, shiftS, allGood}
+use Rattle.squares.specs.Sets.{emptyS, notS, countOf, size, flipS, shiftS, allGood}
 use Rattle.squares.specs.Answers.{popAnswer}
-use Rattle.squares.specs.declared.bitboard.Bitboard.{Bitboard}
 use Rattle.squares.specs.declared.bitboard.Direction.the-variants.{Down, Up, Left, Right}
+use Rattle.squares.proofs.Laws.{squares, marked-sets}
 use Rattle.position.specs.declared.mv.Move.{Move}
 use Rattle.position.specs.declared.mv.Move.the-variants.{Normal, Drop}
 use Rattle.position.specs.declared.answers.Answer.{Answer}
@@ -24,14 +23,6 @@ use Rattle.position.specs.Moves.{badMove, normalFacts, dropFacts, ruleFacts, ar
 use Rattle.position.specs.Games.{plainNumber, plainNext, plainAnswer}
 use Rattle.position.proofs.Laws.{Sized, plays-plain, machine-sound, start-sound}
 use Rattle.sfen.specs.Text.{shogi, letterOf, kindText, pieceText, run, rankText, down, rankCells, ranks, laterText, ranksText, boardText, sideByte, decimal, numberText, countText, handText, orDash, handsText, text, positionText}
-
--- the set of the listed squares
-pub among : List ℕ → ℕ → Bool
-among [] n = false
-among (m ∷ ms) n = eqb n m || among ms n
-
-pub squares : List ℕ → Bitboard
-squares ms = setOf (among ms)
 
 -- the bytes of a text in ASCII
 pub bytes : String → List ℕ
@@ -107,20 +98,20 @@ pub marked :
     × (positionText (full pawns) ≡ bytes "9/9/9/9/9/9/9/9/9 w R2P10p 7")
     -- M12
     × (map (λ v. movePlayed startPosition v .told .number) refusals ≡ 3 ∷ 4 ∷ 5 ∷ 6 ∷ 7 ∷ 9 ∷ 10 ∷ [])
-unfolding squares among topPly setOf word digit has bit odd onSide onBoard squareAt fileOf rankOf flipTo fileStep rankStep step flipS shiftS size countOf isEmpty emptyS notS popAnswer smallest firstOf withoutS bytes pawns positionText text shogi boardText ranks rankCells down tab ranksText laterText rankText run pieceText kindText letterOf kindRow kinds colourOf kindOf goodPiece goodKind handKind otherColour promotedPiece pieceOf sideByte decimal numberText countText handText orDash handsText handAt startPosition startCells startRanks full machine plainAnswer plainNumber plainNext firstFact badMove ruleFacts normalFacts dropFacts next moved arriving held
+unfolding topPly digit onSide onBoard squareAt fileOf rankOf bytes pawns positionText text shogi boardText ranks rankCells down tab ranksText laterText rankText run pieceText kindText letterOf kindRow kinds colourOf kindOf goodPiece goodKind handKind otherColour promotedPiece pieceOf sideByte decimal numberText countText handText orDash handsText handAt startPosition startCells startRanks full machine plainAnswer plainNumber plainNext firstFact badMove ruleFacts normalFacts dropFacts next moved arriving held
 marked = (
-  refl,
-  refl,
-  refl,
-  refl,
-  refl,
-  refl,
-  refl,
-  refl,
-  refl,
-  refl,
-  refl,
-  refl,
+  marked-sets .0,
+  marked-sets .1,
+  marked-sets .2,
+  marked-sets .3,
+  marked-sets .4,
+  marked-sets .5,
+  marked-sets .6,
+  marked-sets .7,
+  marked-sets .8,
+  marked-sets .9,
+  marked-sets .10,
+  marked-sets .11,
   refl,
   ap shown (plain (Normal 61 60 false)),
   ap shown (plain (Normal 71 11 true)),

@@ -30,6 +30,7 @@ pub use Rattle.squares.proofs.Numbers.{kind-range, colour-range, colour
 pub use Rattle.squares.proofs.Numbers.{piece-low, piece-gap, piece-high, piece-black, piece-white, row-bad, promoted-small, letter-small, kind-good, kind-low, kind-high}
 pub use Rattle.squares.proofs.Numbers.{black-kind, white-kind, black-colour, white-colour, empty-colour, bad-cells, good-cells}
 pub use Rattle.squares.proofs.Numbers.{piece-small, piece-by, other-good, no-promoted, no-held, held-small, limit-small}
+pub use Rattle.squares.proofs.Marked.{squares, marked-sets}
 pub use Rattle.squares.proofs.Unique.{one-number, one-form, one-set, one-truth, one-pattern, one-pop}
 
 -- ---- the members of each operation's set

@@ -20,3 +20,4 @@ mod Numbers
 mod Marking
 mod Pieces
 mod Unique
+mod Marked
