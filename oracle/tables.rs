@@ -1,4 +1,4 @@
-//! What the program `tables` must print: the calls that no case line reaches, for every number, by shogi_core. Where the crate
+//! What the program `tables` must print, by shogi_core: calls that no case line reaches, for every number. Where the crate
 //! has no value for a number, ours answers 2 with 0.
 
 use shogi_core::{Bitboard, Color, Hand, PartialPosition, Piece, PieceKind, Square};
@@ -35,9 +35,9 @@ fn main() {
         // The stray bits are dropped, as document 01 says; the crate would count them.
         let first = (1_u128 << bit) & ((1 << 63) - 1);
         let second = (1_u128 << bit & ((1 << 18) - 1)) << 64;
-        // A set is exactly itself unless its one bit was dropped.
-        let exactly = [first, second].map(|words| u8::from(words != 0));
-        println!("{bit} {} {} {} {}", is_empty(first), is_empty(second), exactly[0], exactly[1]);
+        // By document 01 a set is exactly itself unless its one bit was dropped; the empty set is it where nothing is left.
+        let [first, second] = [first, second].map(is_empty);
+        println!("{bit} {first} {second} {} {} {first} {second}", 1 - first, 1 - second);
     }
 }
 

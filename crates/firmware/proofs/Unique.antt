@@ -1,5 +1,5 @@
 -- Any two results that a promise allows are equal: one table, a row for each shape that a public promise has, with the calls that have it.
--- docs/check-calls fails at a public call whose promise has none of these shapes.
+-- docs/check-calls fails at a public call whose promise has none of these shapes, or that is not named here.
 use Prim.Native.Nat.{ℕ}
 use mathlib.Core.Path.{_≡_, sym, _∙_}
 use mathlib.Core.List.{List}
@@ -21,16 +21,25 @@ use Rattle.lent.proofs.Laws.{leaves-once}
 
 pub unique :
     -- r ≡ definition. squares: Square::is_good, Color::is_good, PieceKind::is_good, Piece::is_good, Piece::is_cell, Bitboard::empty, count,
-    -- is_empty, is_exactly, or, and, xor, andnot, not, flip, Marks::of. position: startpos, empty, soundness, piece_at, the five set
-    -- queries, side_to_move, ply, hand, king_position, last_move, make_move, piece_set, hand_set, side_to_move_set, ply_set,
-    -- MoveNumbers::none. lent: make_move_through. firmware: every call that lends no position to be changed and no buffer
+    -- is_empty, is_exactly, or, and, xor, andnot, not, flip, Marks::of. position: Position::startpos, Position::empty, soundness, piece_at,
+    -- player_bitboard, piece_kind_bitboard, piece_bitboard, occupied_bitboard, vacant_bitboard, side_to_move, ply, hand, king_position,
+    -- last_move, make_move, piece_set, hand_set, side_to_move_set, ply_set, MoveNumbers::none. lent: make_move_through. firmware:
+    -- pulfredan_startpos, pulfredan_empty, pulfredan_soundness, pulfredan_piece_at, pulfredan_player_bitboard,
+    -- pulfredan_piece_kind_bitboard, pulfredan_piece_bitboard, pulfredan_occupied_bitboard, pulfredan_vacant_bitboard,
+    -- pulfredan_side_to_move, pulfredan_ply, pulfredan_hand, pulfredan_king_position, pulfredan_last_move, pulfredan_square_new,
+    -- pulfredan_square_file, pulfredan_square_rank, pulfredan_square_flip, pulfredan_color_flip, pulfredan_kind_promote,
+    -- pulfredan_kind_unpromote, pulfredan_kind_limit, pulfredan_kind_letter, pulfredan_kind_hand_kind, pulfredan_piece_new,
+    -- pulfredan_piece_kind, pulfredan_piece_color, pulfredan_piece_promote, pulfredan_piece_unpromote, pulfredan_set_empty,
+    -- pulfredan_set_single, pulfredan_set_count, pulfredan_set_is_empty, pulfredan_set_contains, pulfredan_set_or, pulfredan_set_and,
+    -- pulfredan_set_xor, pulfredan_set_andnot, pulfredan_set_not, pulfredan_set_from_file, pulfredan_set_get_file, pulfredan_set_flip,
+    -- pulfredan_set_pop, pulfredan_set_shift_down, pulfredan_set_shift_up, pulfredan_set_shift_left, pulfredan_set_shift_right
     ((A : Type 0) (definition r s : A) → r ≡ definition → s ≡ definition → r ≡ s)
-    -- numberGiven r ≡ definition: Square::new, file, rank, flip, Color::flip, PieceKind::unpromote, limit, letter, Piece::new, kind, color,
-    -- unpromote
+    -- numberGiven r ≡ definition: Square::new, Square::file, Square::rank, Square::flip, Color::flip, PieceKind::unpromote,
+    -- PieceKind::limit, PieceKind::letter, Piece::new, Piece::kind, Piece::color, Piece::unpromote
     × ((v : NumberValue) (r s : NumberAnswer) → numberGiven r ≡ v → numberGiven s ≡ v → r ≡ s)
-    -- formGiven r ≡ definition: PieceKind::promote, hand_kind, Piece::promote
+    -- formGiven r ≡ definition: PieceKind::promote, PieceKind::hand_kind, Piece::promote
     × ((v : FormValue) (r s : FormAnswer) → formGiven r ≡ v → formGiven s ≡ v → r ≡ s)
-    -- setGiven r ≡ definition: Bitboard::single, from_file, shift, shift_down, shift_up, shift_left, shift_right
+    -- setGiven r ≡ definition: Bitboard::single, Bitboard::from_file, shift, shift_down, shift_up, shift_left, shift_right
     × ((v : SetValue) (r s : SetAnswer) → setGiven r ≡ v → setGiven s ≡ v → r ≡ s)
     -- truthGiven r ≡ definition: contains
     × ((v : TruthValue) (r s : TruthAnswer) → truthGiven r ≡ v → truthGiven s ≡ v → r ≡ s)
@@ -38,8 +47,8 @@ pub unique :
     × ((v : NumberValue) (r s : PatternAnswer) → patternGiven r ≡ v → patternGiven s ≡ v → r ≡ s)
     -- popGiven r ≡ definition: pop
     × ((v : PopValue) (r s : PopAnswer) → popGiven r ≡ v → popGiven s ≡ v → r ≡ s)
-    -- Leaves definition entry r exit: lent: make_move_in_place. firmware: pulfredan_make_normal, _make_drop, _piece_set, _hand_set,
-    -- _side_to_move_set, _ply_set
+    -- Leaves definition entry r exit: lent: make_move_in_place. firmware: pulfredan_make_normal, pulfredan_make_drop,
+    -- pulfredan_piece_set, pulfredan_hand_set, pulfredan_side_to_move_set, pulfredan_ply_set
     × ((a : Answer) (entry : Position) (r s : Told) (x y : Position) → Leaves a entry r x → Leaves a entry s y → (r ≡ s) × (x ≡ y))
     -- r ≡ textAnswer .. and the bytes at exit ≡ bytesAfter ..: sfen: write_sfen. firmware: pulfredan_write_sfen
     × ((p : Position) (bytes : List ℕ) (r s : TextAnswer) (x y : List ℕ) → (r ≡ textAnswer p bytes) × (x ≡ bytesAfter p bytes)

@@ -2,6 +2,6 @@
 mod Args
 mod Change
 mod Look
-mod Hand
+mod HandOn
 mod Ends
 pub mod Laws

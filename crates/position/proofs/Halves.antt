@@ -97,9 +97,9 @@ module _ (p : Position) (s : Sized p) (h : sound p ≡ true) where
   unfolding machine normalPlan
   normal-fits from to promote c t hands k = record { at-from = k .start; at-to = k .goal; side = λ z. sound-side .1; ply = λ z. early (k .early) }
 
-  pub drop-fits : (piece to c : ℕ) (hands : List ℕ) → CanDrop (machine p) piece to → Playable p (dropPlan piece to c hands)
+  pub drop-fits : (piece to : ℕ) (hands : List ℕ) → CanDrop (machine p) piece to → Playable p (dropPlan piece to hands)
   unfolding machine dropPlan
-  drop-fits piece to c hands k = record { at-from = k .goal; at-to = k .goal; side = λ z. sound-side .1; ply = λ z. early (k .early) }
+  drop-fits piece to hands k = record { at-from = k .goal; at-to = k .goal; side = λ z. sound-side .1; ply = λ z. early (k .early) }
 
   pub drop-held : (piece to : ℕ) → CanDrop (machine p) piece to → Holds (p .hands) (p .side) piece
   unfolding machine

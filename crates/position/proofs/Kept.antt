@@ -1,5 +1,5 @@
 -- A move that no fact refuses: what the code makes is the position of the machine after it, and that machine is in order.
-use mathlib.Core.Path.{_≡_, refl, ap, _∙_}
+use mathlib.Core.Path.{_≡_, refl, sym, ap, _∙_}
 use Prim.Native.Nat.{ℕ, _+_, _-_, _≤_, _<_}
 use mathlib.Core.Bool.{Bool, true, false, cond}
 use mathlib.Core.List.{List}
@@ -24,7 +24,7 @@ use Rattle.position.proofs.Pieces.{Lands, arriving-lands, cell-held, pl
 use Rattle.position.proofs.Carrying.{carried, carry-full}
 use Rattle.position.proofs.Tallies.{standing-store, empty-none, held-sum, spent-sum}
 use Rattle.position.proofs.Elsewhere.{ply-next}
-use Rattle.position.proofs.Ladder.{CanMove, CanDrop}
+use Rattle.position.proofs.Ladder.{CanMove, CanDrop, moves-apart}
 
 -- the king stands where the first of its squares is
 pub itself : (cells : List ℕ) (king q : ℕ) → KingIs cells king q → KingIs cells king (kingSquare cells king)
@@ -67,7 +67,7 @@ module _ (m : Machine) (from to : ℕ) (promote : Bool) (g : InOrder m) (size : 
   one = length-set (m .cells) (from - 1) 0 ∙ size
 
   to-cell : cellAt lifted to ≡ cellAt (m .cells) to
-  to-cell = cell-other (m .cells) from to 0 (k .start .low) (k .goal .low) (λ e. k .other (ap (λ (n : ℕ). colourOf (cellAt (m .cells) n)) e ∙ k .own))
+  to-cell = cell-other (m .cells) from to 0 (k .start .low) (k .goal .low) (λ e. moves-apart m from to promote k (sym e))
 
   normal-full : carried (full m) from to v (held (m .side) (cellAt (m .cells) to) (m .hands)) (numbersOf (Normal from to promote)) ≡ full (moved m from to promote)
   unfolding moved

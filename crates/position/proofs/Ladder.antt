@@ -36,6 +36,9 @@ pub record CanMove (m : Machine) (from to : ℕ) (promote : Bool) : Type 0 where
   pub no-king : kindOf (cellAt (m .cells) to) ≡ 8 → ⊥
   pub early : m .ply ≡ topPly → ⊥
 
+pub moves-apart : (m : Machine) (from to : ℕ) (promote : Bool) → CanMove m from to promote → from ≡ to → ⊥
+moves-apart m from to promote k e = k .other (ap (λ (n : ℕ). colourOf (cellAt (m .cells) n)) (sym e) ∙ k .own)
+
 pub record CanDrop (m : Machine) (piece to : ℕ) : Type 0 where
   pub good : goodPiece piece ≡ true
   pub goal : OnBoard to

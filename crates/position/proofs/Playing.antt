@@ -60,29 +60,21 @@ pub normal-number : (from to : ℕ) (promote : Bool) (c t : ℕ) (hands : List �
 unfolding normalPlan
 normal-number from to promote c t hands = refl
 
-pub drop-number : (piece to c : ℕ) (hands : List ℕ) → dropPlan piece to c hands .number ≡ 0
+pub drop-number : (piece to : ℕ) (hands : List ℕ) → dropPlan piece to hands .number ≡ 0
 unfolding dropPlan
-drop-number piece to c hands = refl
+drop-number piece to hands = refl
 
 module _ (p : Position) (size : length (p .board) ≡ 81) where
-  -- what stands on to once from is empty
-  taken-is : (from to : ℕ) → OnBoard from → OnBoard to → cond (eqb from to) 0 (cellAt (p .board) to) ≡ cellAt (set (p .board) (from - 1) 0) to
-  taken-is from to f t = by (ℕ-discrete to from)
-    where
-      by : Dec (to ≡ from) → cond (eqb from to) 0 (cellAt (p .board) to) ≡ cellAt (set (p .board) (from - 1) 0) to
-      by (yes e) = rw (eq-eqb from to (sym e), e, cell-same (p .board) from 0 (f .low) (omega (arith, f .high)))
-      by (no d) = rw (ne-eqb from to (λ z. d (sym z)), cell-other (p .board) from to 0 (f .low) (t .low) d)
-
-  pub normal-plays : (from to : ℕ) (promote : Bool) (hands : List ℕ) → OnBoard from → OnBoard to
+  pub normal-plays : (from to : ℕ) (promote : Bool) (hands : List ℕ) → OnBoard from → OnBoard to → (from ≡ to → ⊥)
       → playedBy p (normalPlan from to promote (cellAt (p .board) from) (cellAt (p .board) to) hands)
       ≡ carried p from to (arriving promote (cellAt (p .board) from)) hands (numbersOf (Normal from to promote))
   unfolding normalPlan playedBy storedBy toggledAt carried setsAfter
-  normal-plays from to promote hands f t = rw (taken-is from to f t)
+  normal-plays from to promote hands f t apart = rw (cell-other (p .board) from to 0 (f .low) (t .low) (λ e. apart (sym e)))
 
-  pub drop-plays : (piece to : ℕ) (hands : List ℕ) → OnBoard to
-      → playedBy p (dropPlan piece to (cellAt (p .board) to) hands) ≡ carried p to to piece hands (numbersOf (Drop piece to))
+  pub drop-plays : (piece to : ℕ) (hands : List ℕ) → OnBoard to → cellAt (p .board) to ≡ 0
+      → playedBy p (dropPlan piece to hands) ≡ carried p to to piece hands (numbersOf (Drop piece to))
   unfolding dropPlan playedBy storedBy toggledAt carried setsAfter
-  drop-plays piece to hands t = rw (cell-same (p .board) to 0 (t .low) (omega (arith, t .high)))
+  drop-plays piece to hands t empty = rw (empty, cell-same (p .board) to 0 (t .low) (omega (arith, t .high)))
 
 -- ---- as the code turns a square: the colour set first, then the kind set
 kind-piece : (x : ℕ) → 1 ≤ kindOf x → kindOf x ≤ 14 → goodPiece x ≡ true

@@ -49,16 +49,16 @@ normalPlan from to promote c t hands =
       from = from;
       to = to;
       left = c;
-      taken = cond (eqb from to) 0 t;
+      taken = t;
       piece = arriving promote c;
       hands = hands;
       last = numbersOf (Normal from to promote);
     }
 
--- the square is emptied of c, and the piece put there
-unfoldable pub dropPlan : ℕ → ℕ → ℕ → List ℕ → Plan
-dropPlan piece to c hands =
-    record { number = 0; from = to; to = to; left = c; taken = 0; piece = piece; hands = hands; last = numbersOf (Drop piece to) }
+-- the piece comes to a square that is empty
+unfoldable pub dropPlan : ℕ → ℕ → List ℕ → Plan
+dropPlan piece to hands =
+    record { number = 0; from = to; to = to; left = 0; taken = 0; piece = piece; hands = hands; last = numbersOf (Drop piece to) }
 
 -- the square of one leaves the set of the mark k, or joins it; the mark of an empty cell, 0, has no set
 unfoldable pub toggled : List Bitboard → ℕ → Bitboard → List Bitboard

@@ -37,7 +37,7 @@ pub(crate) fn cell(board: &[u8; Square::NUM], square: u8) -> u8
     board[at]
 }
 
-pub(crate) fn standing(board: &[u8; Square::NUM], square: u8) -> Stands
+pub(crate) fn stands_on(board: &[u8; Square::NUM], square: u8) -> Stands
     requires { ⌜ OnBoard square ⌝ }
     ensures { λ r. ⌜ r ≡ stood (cellAt (now (board .entry)) square) ⌝ }
 {

@@ -19,7 +19,8 @@ use squares::Color;
 use squares::Piece;
 use squares::Square;
 
-fn is_cell(square: u8, cell: u8) -> bool
+// Whether the square is one, and the cell may stand there.
+fn is_place(square: u8, cell: u8) -> bool
     ensures { λ r. ⌜ r ≡ onBoard 9 square && goodCell cell ⌝ }
 {
     if Square::is_good(square) {
@@ -91,7 +92,7 @@ impl Position {
     pub fn piece_set(self, square: u8, cell: u8) -> Answer
         ensures { λ r. ⌜ r ≡ cellEdited self square cell ⌝ }
     {
-        let told = checked(!is_cell(square, cell), self);
+        let told = checked(!is_place(square, cell), self);
         let next = with_cell(self, square, cell);
         settle(told_after(told, next), self, next)
     }

@@ -16,7 +16,7 @@ use crate::cells::cell;
 use crate::cells::color_of;
 use crate::cells::kind_of;
 use crate::cells::promoted;
-use crate::cells::standing;
+use crate::cells::stands_on;
 use crate::hand::hold;
 use crate::hand::in_hand;
 use crate::hand::spend;
@@ -119,7 +119,7 @@ fn make_normal(p: Position, from: u8, to: u8, promote: bool) -> Plan
     ensures { λ r. ⌜ MovePlan p (Move.Normal from to promote) 0 r ⌝ }
 {
     let board = p.board;
-    let Stands::Piece(piece) = standing(&board, from) else {
+    let Stands::Piece(piece) = stands_on(&board, from) else {
         return refused(3);
     };
     let target = cell(&board, to);
@@ -128,7 +128,7 @@ fn make_normal(p: Position, from: u8, to: u8, promote: bool) -> Plan
         return refused(number);
     }
     let mut hands = p.hands;
-    if let Stands::Piece(taken) = standing(&board, to) {
+    if let Stands::Piece(taken) = stands_on(&board, to) {
         let more = hold(hands, p.side, taken);
         hands = more;
     }
@@ -148,7 +148,7 @@ fn make_drop(p: Position, piece: u8, to: u8) -> Plan
         return refused(refusal);
     }
     let hands = spend(hands, p.side, piece);
-    drop_plan(piece, to, target, hands)
+    drop_plan(piece, to, hands)
 }
 
 // `first` is what refuses before the move is looked at.

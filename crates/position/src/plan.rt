@@ -1,7 +1,5 @@
 // What a move will do, in numbers: known before the position is copied, so that the copy is changed in place.
 ghost use mathlib.Core.Path.{_≡_};
-ghost use mathlib.Core.Bool.{cond};
-ghost use lib.Dec.{eqb};
 ghost use Rattle.position.specs.Moves.{arriving};
 ghost use Rattle.position.specs.Plans.{refusedBy, normalPlan, dropPlan};
 use crate::cells::promoted;
@@ -44,13 +42,6 @@ fn arrival(promote: bool, piece: u8) -> u8
     if promote { promoted(piece) } else { piece }
 }
 
-// What stands on `to`, where `target` stood, once `from` is empty.
-fn taken_on(from: u8, to: u8, target: u8) -> u8
-    ensures { λ r. ⌜ r ≡ cond (eqb from to) 0 target ⌝ }
-{
-    if from == to { 0 } else { target }
-}
-
 // The piece goes to a square where `target` stands; `hands` are those after it.
 pub(crate) fn normal_plan(
     from: u8,
@@ -68,23 +59,23 @@ pub(crate) fn normal_plan(
         from,
         to,
         left: piece,
-        taken: taken_on(from, to, target),
+        taken: target,
         piece: arrival(promote, piece),
         hands,
         last,
     }
 }
 
-// The square is emptied first, of `target`: where a drop is accepted it is empty.
-pub(crate) fn drop_plan(piece: u8, to: u8, target: u8, hands: [u8; 14]) -> Plan
-    ensures { λ r. ⌜ r ≡ dropPlan piece to target hands ⌝ }
+// The piece comes to an empty square, which nothing leaves.
+pub(crate) fn drop_plan(piece: u8, to: u8, hands: [u8; 14]) -> Plan
+    ensures { λ r. ⌜ r ≡ dropPlan piece to hands ⌝ }
 {
     let last = MoveNumbers::of(Move::Drop { piece, to });
     Plan {
         number: 0,
         from: to,
         to,
-        left: target,
+        left: 0,
         taken: 0,
         piece,
         hands,

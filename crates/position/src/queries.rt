@@ -18,7 +18,7 @@ use crate::answers::ToldPly;
 use crate::answers::ToldSet;
 use crate::cells::color_of;
 use crate::cells::kind_of;
-use crate::cells::standing;
+use crate::cells::stands_on;
 use crate::hand::index;
 use crate::mv::LastMove;
 use crate::mv::Move;
@@ -132,7 +132,7 @@ impl Position {
             return ToldPiece { told, stands };
         }
         let board = self.board;
-        let stands = standing(&board, square);
+        let stands = stands_on(&board, square);
         ToldPiece { told, stands }
     }
 

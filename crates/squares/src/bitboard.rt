@@ -75,7 +75,7 @@ impl Bitboard {
         kept == 0
     }
 
-    // Whether it has no stray bit, and just the squares of the other.
+    // Whether it has no stray bit, and just the squares of the other: the one call that looks for stray bits, in its first set.
     pub fn is_exactly(self, other: Self) -> bool
         ensures { λ r. ⌜ r ≡ exactly self other ⌝ }
     {

@@ -1,4 +1,5 @@
-// Prints what the calls that no case line reaches answer, for every number. What it must print comes from the Rust.
+// Prints what the calls on numbers that no case line reaches answer, for every number, and some calls on sets. What it must print comes
+// from the Rust, where that has such a call.
 mod print;
 
 use print::form;
@@ -65,8 +66,8 @@ fn made_piece(open: bool, kind: u8, color: u8) -> bool {
     number(open, Piece::new(kind, color), b'\n')
 }
 
-// Whether the set of one bit is empty, and whether it is exactly itself, in the first word and in the second: the stray bits are no
-// squares.
+// Whether the set of one bit is empty, whether it is exactly itself, and whether the empty set is exactly it, in the first word and in
+// the second: the stray bits are no squares.
 fn one_bit(open: bool, bit: u8) -> bool {
     let one: u64 = 1;
     let mask = one << (bit % 64);
@@ -75,6 +76,9 @@ fn one_bit(open: bool, bit: u8) -> bool {
     let open = put(open, bit as u64, b' ');
     let open = truth(open, first.is_empty(), b' ');
     let open = truth(open, second.is_empty(), b' ');
+    let none = Bitboard::empty();
     let open = truth(open, first.is_exactly(first), b' ');
-    truth(open, second.is_exactly(second), b'\n')
+    let open = truth(open, second.is_exactly(second), b' ');
+    let open = truth(open, none.is_exactly(first), b' ');
+    truth(open, none.is_exactly(second), b'\n')
 }

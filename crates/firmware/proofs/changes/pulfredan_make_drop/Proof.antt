@@ -1,4 +1,4 @@
--- An entry that hands the lent position on to `make_move_in_place` (`Hand.antt` of `lent`).
+-- An entry that hands the lent position on to `make_move_in_place` (`HandOn.antt` of `lent`).
 use contract.Running.{givenOf, tables, tablesOf}
 use denote.Triple.Spec.{tripleOf}
 use denote.Triple.Table.{entered, cited}

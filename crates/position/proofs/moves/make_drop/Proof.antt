@@ -1,5 +1,4 @@
 use mathlib.Core.Path.{_≡_, sym, _∙_}
-use native.Mathlib.Omega.{arith}
 use Rattle.squares.proofs.Laws.{piece-kind}
 use Rattle.position.specs.Machine.{machine, cellAt}
 use Rattle.position.specs.Answers.{firstFact}
@@ -33,8 +32,8 @@ can q = drop-passes _ _ _ (start (q .before) .pre .good) (sym (number (q .before
 planned : (c : tie.After-drop-plan)
     → let s = start (c .before .before .before) in
     c .drop-plan .result
-    ≡ dropPlan (s .args .piece) (s .args .to) (cellAt (s .args .p .board) (s .args .to)) (spent (s .args .p .side) (s .args .piece) (s .args .p .hands))
-planned c = rw (← c .before .spend .ensures, ← c .before .before .before .before .cell .ensures) (c .drop-plan .ensures)
+    ≡ dropPlan (s .args .piece) (s .args .to) (spent (s .args .p .side) (s .args .piece) (s .args .p .hands))
+planned c = rw (← c .before .spend .ensures) (c .drop-plan .ensures)
 
 in-hand-requires : tie.Need-in-hand-requires
 in-hand-requires c κs = let s = c .before .before in let w = sound-side (s .args .p) (size s) (s .pre .whole) in (w .0, w .1, piece-kind _ (drop-numbers _ _ (s .pre .good) .0) .0)
@@ -49,8 +48,8 @@ spend-requires : tie.Need-spend-requires
 spend-requires c κs = let s = start (c .before) in drop-held (s .args .p) (size s) (s .pre .whole) _ _ (can c)
 
 returns-2 : tie.Need-returns-2
-unfolding next
-returns-2 c = let q = c .before .before in let s = start (q .before) in let k = can q in plan-moves _ _ _ _ (planned c) (drop-number _ _ _ _) (drop-fits (s .args .p) (size s) (s .pre .whole) _ _ _ _ k) (rule-passes _ _ (s .pre) _ (sym (number (q .before)) ∙ q .if1 .left) (drop-plays (s .args .p) (size s .board) _ _ _ (k .goal) ∙ drop-carried (s .args .p) (size s) (s .pre .whole) _ _ k))
+unfolding next machine
+returns-2 c = let q = c .before .before in let s = start (q .before) in let k = can q in plan-moves _ _ _ _ (planned c) (drop-number _ _ _) (drop-fits (s .args .p) (size s) (s .pre .whole) _ _ _ k) (rule-passes _ _ (s .pre) _ (sym (number (q .before)) ∙ q .if1 .left) (drop-plays (s .args .p) (size s .board) _ _ _ (k .goal) (k .empty) ∙ drop-carried (s .args .p) (size s) (s .pre .whole) _ _ k))
 
 pub make-drop-spec : {M : Type 1} → statement M
 make-drop-spec =

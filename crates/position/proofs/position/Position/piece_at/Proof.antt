@@ -15,14 +15,14 @@ module _ (c : tie.After-checked) where
 returns : tie.Need-returns
 returns c = piece-refused _ _ _ (query (c .before .before)) (c .if1 .taken)
 
-standing-requires : tie.Need-standing-requires
-standing-requires c κs =
+stands-on-requires : tie.Need-stands-on-requires
+stands-on-requires c κs =
     let e = c .before .before in
     let r = board-range 9 _ (not-false _ (done-good _ _ _ (query (e .before .before)) (e .if1 .left))) in
     record { low = r .0; high = r .1 }
 
 returns-2 : tie.Need-returns-2
-returns-2 c = piece-done _ _ _ (query (c .before .before .before .before .before)) _ (c .before .before .before .if1 .left) (c .standing .ensures)
+returns-2 c = piece-done _ _ _ (query (c .before .before .before .before .before)) _ (c .before .before .before .if1 .left) (c .stands-on .ensures)
 
 pub piece-at-spec : {M : Type 1} → statement M
-piece-at-spec = tie.close (tie.spec (λ c κs. tt) (λ c κs. tt) returns standing-requires returns-2)
+piece-at-spec = tie.close (tie.spec (λ c κs. tt) (λ c κs. tt) returns stands-on-requires returns-2)

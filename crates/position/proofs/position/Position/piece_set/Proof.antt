@@ -13,7 +13,7 @@ returns c =
     let w = a .before in
     let t = w .before in
     let s = t .before .before in
-    let e = heard-as _ _ _ _ (t .checked .ensures) (t .before .is-cell .ensures) in
+    let e = heard-as _ _ _ _ (t .checked .ensures) (t .before .is-place .ensures) in
     c .settle .ensures
     ∙ edit-asked _ _ _ _ e _ (λ z.
     let g = cell-good _ (sized _ _ (s .good .0)) (done-sound _ _ _ e z) _ _ (done-good _ _ _ e z) in
