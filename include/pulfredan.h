@@ -5,7 +5,8 @@
  * one square to another, or from a hand to a square.
  *
  * The archive (`rt staticlib firmware`) is code for x86-64, with the calling convention of Linux there. It needs one function of its host,
- * memcpy, keeps nothing between calls, and may run freestanding. Of stack a call takes up to 3.6 kB, as measured: keep 4 kB free.
+ * memcpy, keeps nothing between calls, and may run freestanding. Of stack a call takes up to 3.6 kB, as measured: keep 4 kB free. It uses
+ * the SSE registers: a kernel or an interrupt handler that makes a call must have SSE enabled, and save and restore those registers.
  *
  * What the host owes, and nothing can check: a pointer to a position is not null, is aligned as its type, and points to a whole
  * position that no other part of the program writes during the call (nor reads, where the call changes it). The same holds of a lent buffer
@@ -16,7 +17,9 @@
 #ifndef PULFREDAN_H
 #define PULFREDAN_H
 
-#if !defined(__x86_64__) && !defined(_M_X64)
+#if defined(_WIN32) || defined(__CYGWIN__)
+#error "Pulfredan's archive has the calling convention of Linux: Windows calls otherwise, so compile for another target"
+#elif !defined(__x86_64__)
 #error "Pulfredan's archive is code for x86-64: compile for that target"
 #endif
 
