@@ -5,9 +5,7 @@
 #[cfg(not(target_arch = "x86_64"))]
 compile_error!("Pulfredan's archive is code for x86-64: compile for that target");
 #[cfg(any(windows, target_os = "uefi"))]
-compile_error!(
-    "Pulfredan's archive has the calling convention of Linux: Windows and UEFI call otherwise, so compile for another target"
-);
+compile_error!("Pulfredan's archive has the calling convention of Linux: Windows and UEFI call otherwise, so compile for another target");
 
 mod c;
 mod numbers;

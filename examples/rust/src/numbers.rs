@@ -1,4 +1,5 @@
-//! Squares, colours, kinds and pieces by number.
+//! Squares, colours, kinds and pieces by number. A call refuses bad numbers with 2, and nothing else.
+#![allow(clippy::new_ret_no_self, reason = "the names are shogi_core's; squares and pieces are numbers here")]
 use crate::c;
 use crate::refused::{numbered, Refused};
 
