@@ -32,10 +32,11 @@ impl MoveNumbers {
     }
 }
 
-/// A position. Any bytes may stand in it: what is not sound is refused with 1.
+/// A position. Any bytes may stand in it: what is not sound is refused with 1. Positions are equal when all their bytes are, since a stray
+/// bit in a set makes a position unsound. Every call looks for 2 first, then for 1, then for the other numbers in the order given.
 #[repr(C)]
 #[must_use]
-#[derive(Clone, Copy, PartialEq, Eq, Debug)]
+#[derive(Clone, Copy, Debug)]
 pub struct Position {
     pub board: [u8; 81],
     pub hands: [u8; 14],
@@ -60,6 +61,21 @@ const _: () = assert!(
         && offset_of!(Position, kinds) == 136
 );
 
+impl Position {
+    fn bytes(&self) -> &[u8; size_of::<Self>()] {
+        // SAFETY: the fields fill the struct without a gap, as asserted above, so that every byte of it is set.
+        unsafe { &*core::ptr::from_ref(self).cast() }
+    }
+}
+
+impl PartialEq for Position {
+    fn eq(&self, other: &Self) -> bool {
+        self.bytes() == other.bytes()
+    }
+}
+
+impl Eq for Position {}
+
 fn set(r: c::ToldSet) -> Result<Set, Refused> {
     told(r.told, r.set)
 }
@@ -69,6 +85,7 @@ fn number(r: c::ToldNumber) -> Result<u8, Refused> {
 }
 
 impl Position {
+    /// The start position.
     pub fn startpos() -> Self {
         c::pulfredan_startpos()
     }
@@ -78,58 +95,69 @@ impl Position {
         c::pulfredan_empty()
     }
 
+    /// Is the position sound? Refused with 1, and the first faulty square in reading order, or 0.
     pub fn soundness(&self) -> Result<(), Refused> {
         told(c::pulfredan_soundness(self), ())
     }
 
+    /// The piece on a square, if there is one. Refused with 2, 1.
     pub fn piece_at(&self, square: u8) -> Result<Option<u8>, Refused> {
         number(c::pulfredan_piece_at(self, square)).map(unless_0)
     }
 
+    /// The squares of a colour's pieces. Refused with 2, 1.
     pub fn player_bitboard(&self, color: u8) -> Result<Set, Refused> {
         set(c::pulfredan_player_bitboard(self, color))
     }
 
+    /// The squares of a kind's pieces, of both colours. Refused with 2, 1.
     pub fn piece_kind_bitboard(&self, kind: u8) -> Result<Set, Refused> {
         set(c::pulfredan_piece_kind_bitboard(self, kind))
     }
 
+    /// The squares of a piece. Refused with 2, 1.
     pub fn piece_bitboard(&self, piece: u8) -> Result<Set, Refused> {
         set(c::pulfredan_piece_bitboard(self, piece))
     }
 
+    /// The squares with a piece. Refused with 1.
     pub fn occupied_bitboard(&self) -> Result<Set, Refused> {
         set(c::pulfredan_occupied_bitboard(self))
     }
 
+    /// The squares without one. Refused with 1.
     pub fn vacant_bitboard(&self) -> Result<Set, Refused> {
         set(c::pulfredan_vacant_bitboard(self))
     }
 
+    /// The colour to move. Refused with 1.
     pub fn side_to_move(&self) -> Result<u8, Refused> {
         number(c::pulfredan_side_to_move(self))
     }
 
+    /// The number of the next move. Refused with 1.
     pub fn ply(&self) -> Result<u16, Refused> {
         let r = c::pulfredan_ply(self);
         told(r.told, r.ply)
     }
 
-    /// How many of a kind, 1 to 7, a colour has in hand.
+    /// How many of a kind, 1 to 7, a colour has in hand. Refused with 2, 1.
     pub fn hand(&self, color: u8, kind: u8) -> Result<u8, Refused> {
         number(c::pulfredan_hand(self, color, kind))
     }
 
+    /// The square of a colour's king, if it has one. Refused with 2, 1.
     pub fn king_position(&self, color: u8) -> Result<Option<u8>, Refused> {
         number(c::pulfredan_king_position(self, color)).map(unless_0)
     }
 
+    /// The last move, if there is one. Refused with 1.
     pub fn last_move(&self) -> Result<Option<Move>, Refused> {
         let r = c::pulfredan_last_move(self);
         told(r.told, r.last.told())
     }
 
-    /// Plays a move in place.
+    /// Plays a move in place. A normal one is refused with 2, 1, 3, 4, 5, 6, 7, 11; a drop with 2, 1, 4, 8, 9, 10, 11.
     pub fn make_move(&mut self, m: Move) -> Result<(), Refused> {
         match m {
             Move::Normal { from, to, promote } => told(c::pulfredan_make_normal(self, from, to, promote), ()),
@@ -137,24 +165,27 @@ impl Position {
         }
     }
 
-    /// One cell; 0 empties it. The sets and king squares follow.
+    /// Edits one cell; 0 empties it. The sets and king squares follow, the last move stays. Refused with 2, 1, 13.
     pub fn piece_set(&mut self, square: u8, cell: u8) -> Result<(), Refused> {
         told(c::pulfredan_piece_set(self, square, cell), ())
     }
 
+    /// Edits one count of a hand; the last move stays. Refused with 2, 1, 13.
     pub fn hand_set(&mut self, color: u8, kind: u8, count: u8) -> Result<(), Refused> {
         told(c::pulfredan_hand_set(self, color, kind, count), ())
     }
 
+    /// Edits the side to move; the last move stays. Refused with 2, 1.
     pub fn side_to_move_set(&mut self, color: u8) -> Result<(), Refused> {
         told(c::pulfredan_side_to_move_set(self, color), ())
     }
 
+    /// Edits the ply; the last move stays. Refused with 2, 1.
     pub fn ply_set(&mut self, ply: u16) -> Result<(), Refused> {
         told(c::pulfredan_ply_set(self, ply), ())
     }
 
-    /// The SFEN text in the first bytes of `out`, and its length. `TEXT_MAX` bytes are always enough.
+    /// The SFEN text in the first bytes of `out`, and its length. `TEXT_MAX` bytes are always enough. Refused with 1, 12.
     pub fn write_sfen(&self, out: &mut [u8]) -> Result<usize, Refused> {
         // SAFETY: the pointer and the length are those of one lent slice.
         let r = unsafe { c::pulfredan_write_sfen(self, out.as_mut_ptr(), out.len()) };
