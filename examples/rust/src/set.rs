@@ -1,15 +1,16 @@
-//! Sets of squares.
+//! Sets of squares. A call that can be refused refuses bad numbers with 2, and nothing else.
+use core::hash::{Hash, Hasher};
 use core::iter::FusedIterator;
-use core::ops::{BitAnd, BitOr, BitXor, Not, Sub};
+use core::ops::{BitAnd, BitAndAssign, BitOr, BitOrAssign, BitXor, BitXorAssign, Not, Sub, SubAssign};
 
 use crate::c;
 use crate::refused::{numbered, Refused};
 
 /// A set of squares: square n is bit n - 1 of `lo` for n up to 63, else bit n - 64 of `hi`. The other bits are ignored on entry, and zero
-/// in every result.
+/// in every result. Sets are equal when they have the same squares, whatever their other bits.
 #[repr(C)]
 #[must_use]
-#[derive(Clone, Copy, PartialEq, Eq, Debug, Default)]
+#[derive(Clone, Copy, Debug, Default)]
 pub struct Set {
     pub lo: u64,
     pub hi: u64,
@@ -53,6 +54,11 @@ impl Set {
         numbered(r.number, r.truth)
     }
 
+    /// The squares, ascending.
+    pub fn iter(&self) -> Squares {
+        Squares(*self)
+    }
+
     /// Square n goes to 82 - n.
     pub fn flip(self) -> Self {
         c::pulfredan_set_flip(self)
@@ -86,12 +92,33 @@ impl Set {
     }
 }
 
+impl PartialEq for Set {
+    fn eq(&self, other: &Self) -> bool {
+        (*self ^ *other).is_empty()
+    }
+}
+
+impl Eq for Set {}
+
+impl Hash for Set {
+    fn hash<H: Hasher>(&self, state: &mut H) {
+        let Self { lo, hi } = *self | Self::empty();
+        (lo, hi).hash(state);
+    }
+}
+
 /// In either.
 impl BitOr for Set {
     type Output = Self;
 
     fn bitor(self, other: Self) -> Self {
         c::pulfredan_set_or(self, other)
+    }
+}
+
+impl BitOrAssign for Set {
+    fn bitor_assign(&mut self, other: Self) {
+        *self = *self | other;
     }
 }
 
@@ -104,6 +131,12 @@ impl BitAnd for Set {
     }
 }
 
+impl BitAndAssign for Set {
+    fn bitand_assign(&mut self, other: Self) {
+        *self = *self & other;
+    }
+}
+
 /// In just one.
 impl BitXor for Set {
     type Output = Self;
@@ -113,12 +146,24 @@ impl BitXor for Set {
     }
 }
 
+impl BitXorAssign for Set {
+    fn bitxor_assign(&mut self, other: Self) {
+        *self = *self ^ other;
+    }
+}
+
 /// In the first and not in the second: `pulfredan_set_andnot` with the second first.
 impl Sub for Set {
     type Output = Self;
 
     fn sub(self, other: Self) -> Self {
         c::pulfredan_set_andnot(other, self)
+    }
+}
+
+impl SubAssign for Set {
+    fn sub_assign(&mut self, other: Self) {
+        *self = *self - other;
     }
 }
 
@@ -160,6 +205,33 @@ impl IntoIterator for Set {
     type IntoIter = Squares;
 
     fn into_iter(self) -> Squares {
-        Squares(self)
+        self.iter()
+    }
+}
+
+impl IntoIterator for &Set {
+    type Item = u8;
+    type IntoIter = Squares;
+
+    fn into_iter(self) -> Squares {
+        self.iter()
+    }
+}
+
+/// A number that is no square is left out: whoever must know of it asks `Set::single`.
+impl Extend<u8> for Set {
+    fn extend<I: IntoIterator<Item = u8>>(&mut self, squares: I) {
+        for square in squares {
+            *self |= Self::single(square).unwrap_or_default();
+        }
+    }
+}
+
+/// A number that is no square is left out, as by `extend`.
+impl FromIterator<u8> for Set {
+    fn from_iter<I: IntoIterator<Item = u8>>(squares: I) -> Self {
+        let mut set = Self::empty();
+        set.extend(squares);
+        set
     }
 }
