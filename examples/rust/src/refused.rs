@@ -4,7 +4,7 @@ use core::fmt;
 use crate::c::Told;
 
 /// The number of a refused call, and the square that goes with 1: the first faulty one, or 0. What was lent is as it was.
-#[derive(Clone, Copy, PartialEq, Eq, Debug)]
+#[derive(Clone, Copy, PartialEq, Eq)]
 pub struct Refused {
     pub number: u8,
     pub square: u8,
@@ -53,6 +53,13 @@ impl fmt::Display for Refused {
             write!(f, ", first at square {}", self.square)?;
         }
         Ok(())
+    }
+}
+
+/// The same text, so that `unwrap` and a `main` that returns a refusal say it in words.
+impl fmt::Debug for Refused {
+    fn fmt(&self, f: &mut fmt::Formatter<'_>) -> fmt::Result {
+        fmt::Display::fmt(self, f)
     }
 }
 
