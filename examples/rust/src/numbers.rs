@@ -16,6 +16,27 @@ fn form(r: c::NumberResult) -> Result<Option<u8>, Refused> {
     number(r).map(unless_0)
 }
 
+/// The square of a file and a rank, for constants: a bad number does not compile there, and panics elsewhere. For numbers that come from
+/// outside there is `Square::new`.
+#[must_use]
+pub const fn square(file: u8, rank: u8) -> u8 {
+    assert!(matches!((file, rank), (1..=9, 1..=9)), "files and ranks are 1 to 9");
+    9 * file - 9 + rank
+}
+
+/// The black piece of a kind, for constants like `square`; for numbers that come from outside there is `Piece::new`.
+#[must_use]
+pub const fn black(kind: u8) -> u8 {
+    assert!(matches!(kind, Kind::PAWN..=Kind::PRO_ROOK), "kinds are 1 to 14");
+    kind
+}
+
+/// The white piece of a kind, likewise.
+#[must_use]
+pub const fn white(kind: u8) -> u8 {
+    16 + black(kind)
+}
+
 /// 1 to 81: nine times the file less nine, plus the rank.
 pub struct Square;
 

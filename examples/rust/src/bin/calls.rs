@@ -1,5 +1,5 @@
 //! The same as examples/c/calls.c: the calls that play does not make, with document 01's marked examples of sets.
-use pulfredan::{Color, Kind, Move, Piece, Position, Refused, Set, Square};
+use pulfredan::{black, square, white, Color, Kind, Move, Piece, Position, Refused, Set, Square};
 
 fn set(name: &str, s: Set) {
     squares(name, 0, s);
@@ -99,14 +99,14 @@ fn kinds() -> Result<(), Refused> {
     form("15 in hand", Kind::hand_kind(15));
     number("other colour", Color::flip(Color::BLACK));
     number("other than 3", Color::flip(3));
-    let rook = Piece::new(Kind::ROOK, Color::WHITE)?;
-    number("white rook", Ok(rook));
+    let rook = white(Kind::ROOK);
+    number("white rook", Piece::new(Kind::ROOK, Color::WHITE));
     number("rook of 3", Piece::new(Kind::ROOK, 3));
     number("its kind", Piece::kind(rook));
     number("its colour", Piece::color(rook));
     form("promoted", Piece::promote(rook));
-    form("gold promoted", Piece::promote(Kind::GOLD));
-    number("unpromoted", Piece::unpromote(Piece::new(Kind::PRO_ROOK, Color::WHITE)?));
+    form("gold promoted", Piece::promote(black(Kind::GOLD)));
+    number("unpromoted", Piece::unpromote(white(Kind::PRO_ROOK)));
     number("kind of 0", Piece::kind(0));
     number("colour of 16", Piece::color(16));
     form("31 promoted", Piece::promote(31));
@@ -116,11 +116,11 @@ fn kinds() -> Result<(), Refused> {
 
 fn positions() -> Result<(), Refused> {
     let (mut board, bare) = (Position::startpos(), Position::empty());
-    told_form("piece on 5I", board.piece_at(Square::new(5, 9)?));
-    told_form("piece on 5E", board.piece_at(Square::new(5, 5)?));
+    told_form("piece on 5I", board.piece_at(square(5, 9)));
+    told_form("piece on 5E", board.piece_at(square(5, 5)));
     told_form("piece on 82", board.piece_at(82));
     result("white", board.player_bitboard(Color::WHITE));
-    result("white king", board.piece_bitboard(Piece::new(Kind::KING, Color::WHITE)?));
+    result("white king", board.piece_bitboard(white(Kind::KING)));
     result("piece 0", board.piece_bitboard(0));
     result("vacant", board.vacant_bitboard());
     told_form("king", board.king_position(Color::WHITE));

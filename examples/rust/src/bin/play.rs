@@ -1,5 +1,5 @@
 //! The same as examples/c/play.c: a lent position is changed in place, lamps are lit for a set of squares, the text is sent.
-use pulfredan::{Color, Kind, Move, Piece, Position, Refused, Set, Square, TEXT_MAX};
+use pulfredan::{black, Color, Kind, Move, Position, Refused, Set, Square, TEXT_MAX};
 
 fn lamps(name: &str, set: Set) {
     print!("{name}:");
@@ -57,8 +57,7 @@ fn game() -> Result<(), Refused> {
     play(&mut board, square(5, b'I')?, square(5, b'H')?, false)?;
 
     play(&mut board, square(3, b'A')?, square(2, b'B')?, false)?;
-    let bishop = Piece::new(Kind::BISHOP, Color::BLACK)?;
-    println!("drop: {}", number(board.make_move(Move::Drop { piece: bishop, to: square(5, b'E')? })));
+    println!("drop: {}", number(board.make_move(Move::Drop { piece: black(Kind::BISHOP), to: square(5, b'E')? })));
     send(&board, TEXT_MAX);
     Ok(())
 }
@@ -74,8 +73,7 @@ fn edits() -> Result<(), Refused> {
     let held = number(board.hand_set(Color::BLACK, Kind::PAWN, 1));
     let too_many = number(board.hand_set(Color::BLACK, Kind::PAWN, 2));
     println!("edits: {emptied} {held} {too_many}");
-    let pawn = Piece::new(Kind::PAWN, Color::BLACK)?;
-    println!("drop: {}", number(board.make_move(Move::Drop { piece: pawn, to: square(7, b'E')? })));
+    println!("drop: {}", number(board.make_move(Move::Drop { piece: black(Kind::PAWN), to: square(7, b'E')? })));
     send(&board, TEXT_MAX);
 
     // A byte that no call wrote.
