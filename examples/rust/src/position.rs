@@ -3,7 +3,7 @@ use core::mem::offset_of;
 
 use crate::c;
 use crate::numbers::unless_0;
-use crate::refused::{told, Refused};
+use crate::refused::{done, Refused};
 use crate::set::Set;
 
 #[derive(Clone, Copy, PartialEq, Eq, Debug)]
@@ -23,7 +23,7 @@ pub struct MoveNumbers {
 }
 
 impl MoveNumbers {
-    fn told(self) -> Option<Move> {
+    fn read(self) -> Option<Move> {
         match self {
             Self { tag: 1, a: from, b: to, promote } => Some(Move::Normal { from, to, promote: promote == 1 }),
             Self { tag: 2, a: piece, b: to, .. } => Some(Move::Drop { piece, to }),
@@ -77,11 +77,11 @@ impl PartialEq for Position {
 impl Eq for Position {}
 
 fn set(r: c::ToldSet) -> Result<Set, Refused> {
-    told(r.told, r.set)
+    done(r.told, r.set)
 }
 
 fn number(r: c::ToldNumber) -> Result<u8, Refused> {
-    told(r.told, r.value)
+    done(r.told, r.value)
 }
 
 impl Position {
@@ -97,7 +97,7 @@ impl Position {
 
     /// Is the position sound? Refused with 1, and the first faulty square in reading order, or 0.
     pub fn soundness(&self) -> Result<(), Refused> {
-        told(c::pulfredan_soundness(self), ())
+        done(c::pulfredan_soundness(self), ())
     }
 
     /// The piece on a square, if there is one. Refused with 2, 1.
@@ -138,7 +138,7 @@ impl Position {
     /// The number of the next move. Refused with 1.
     pub fn ply(&self) -> Result<u16, Refused> {
         let r = c::pulfredan_ply(self);
-        told(r.told, r.ply)
+        done(r.told, r.ply)
     }
 
     /// How many of a kind, 1 to 7, a colour has in hand. Refused with 2, 1.
@@ -154,41 +154,41 @@ impl Position {
     /// The last move, if there is one. Refused with 1.
     pub fn last_move(&self) -> Result<Option<Move>, Refused> {
         let r = c::pulfredan_last_move(self);
-        told(r.told, r.last.told())
+        done(r.told, r.last.read())
     }
 
     /// Plays a move in place. A normal one is refused with 2, 1, 3, 4, 5, 6, 7, 11; a drop with 2, 1, 4, 8, 9, 10, 11.
     pub fn make_move(&mut self, m: Move) -> Result<(), Refused> {
         match m {
-            Move::Normal { from, to, promote } => told(c::pulfredan_make_normal(self, from, to, promote), ()),
-            Move::Drop { piece, to } => told(c::pulfredan_make_drop(self, piece, to), ()),
+            Move::Normal { from, to, promote } => done(c::pulfredan_make_normal(self, from, to, promote), ()),
+            Move::Drop { piece, to } => done(c::pulfredan_make_drop(self, piece, to), ()),
         }
     }
 
     /// Edits one cell; 0 empties it. The sets and king squares follow, the last move stays. Refused with 2, 1, 13.
     pub fn piece_set(&mut self, square: u8, cell: u8) -> Result<(), Refused> {
-        told(c::pulfredan_piece_set(self, square, cell), ())
+        done(c::pulfredan_piece_set(self, square, cell), ())
     }
 
     /// Edits one count of a hand; the last move stays. Refused with 2, 1, 13.
     pub fn hand_set(&mut self, color: u8, kind: u8, count: u8) -> Result<(), Refused> {
-        told(c::pulfredan_hand_set(self, color, kind, count), ())
+        done(c::pulfredan_hand_set(self, color, kind, count), ())
     }
 
     /// Edits the side to move; the last move stays. Refused with 2, 1.
     pub fn side_to_move_set(&mut self, color: u8) -> Result<(), Refused> {
-        told(c::pulfredan_side_to_move_set(self, color), ())
+        done(c::pulfredan_side_to_move_set(self, color), ())
     }
 
     /// Edits the ply; the last move stays. Refused with 2, 1.
     pub fn ply_set(&mut self, ply: u16) -> Result<(), Refused> {
-        told(c::pulfredan_ply_set(self, ply), ())
+        done(c::pulfredan_ply_set(self, ply), ())
     }
 
     /// The SFEN text in the first bytes of `out`, and its length. `TEXT_MAX` bytes are always enough. Refused with 1, 12.
     pub fn write_sfen(&self, out: &mut [u8]) -> Result<usize, Refused> {
         // SAFETY: the pointer and the length are those of one lent slice.
         let r = unsafe { c::pulfredan_write_sfen(self, out.as_mut_ptr(), out.len()) };
-        told(r.told, r.length)
+        done(r.told, r.length)
     }
 }

@@ -3,54 +3,92 @@ use core::fmt;
 
 use crate::c::Told;
 
-/// The number of a refused call, and the square that goes with 1: the first faulty one, or 0. What was lent is as it was.
+/// Why a call was refused, one case for each answer number. What was lent is as it was. More cases come with more calls.
 #[derive(Clone, Copy, PartialEq, Eq)]
-pub struct Refused {
-    pub number: u8,
-    pub square: u8,
+#[non_exhaustive]
+pub enum Refused {
+    /// With the first faulty square in reading order, or 0 where no cell is at fault.
+    NotSound {
+        square: u8,
+    },
+    BadNumber,
+    NothingThere,
+    OtherSide,
+    NoPromotion,
+    OwnPiece,
+    TakesKing,
+    DropPromoted,
+    DropOccupied,
+    NotInHand,
+    LastPly,
+    ShortBuffer,
+    EditUnsound,
 }
 
 impl Refused {
-    pub const NOT_SOUND: u8 = 1;
-    pub const BAD_NUMBER: u8 = 2;
-    pub const NOTHING_THERE: u8 = 3;
-    pub const OTHER_SIDE: u8 = 4;
-    pub const NO_PROMOTION: u8 = 5;
-    pub const OWN_PIECE: u8 = 6;
-    pub const TAKES_KING: u8 = 7;
-    pub const DROP_PROMOTED: u8 = 8;
-    pub const DROP_OCCUPIED: u8 = 9;
-    pub const NOT_IN_HAND: u8 = 10;
-    pub const LAST_PLY: u8 = 11;
-    pub const SHORT_BUFFER: u8 = 12;
-    pub const EDIT_UNSOUND: u8 = 13;
+    /// The answer number, 1 to 13.
+    #[must_use]
+    pub const fn number(self) -> u8 {
+        self.told().0
+    }
 
     #[must_use]
     pub const fn meaning(self) -> &'static str {
-        match self.number {
-            Self::NOT_SOUND => "the position is not sound",
-            Self::BAD_NUMBER => "a number is out of range",
-            Self::NOTHING_THERE => "nothing on the from square",
-            Self::OTHER_SIDE => "the piece is the other side's",
-            Self::NO_PROMOTION => "the piece has no promoted form",
-            Self::OWN_PIECE => "own piece on the to square",
-            Self::TAKES_KING => "the move would take a king",
-            Self::DROP_PROMOTED => "drop of a promoted piece",
-            Self::DROP_OCCUPIED => "drop on an occupied square",
-            Self::NOT_IN_HAND => "that kind is not in hand",
-            Self::LAST_PLY => "the ply is already 65535",
-            Self::SHORT_BUFFER => "the buffer is shorter than the text",
-            Self::EDIT_UNSOUND => "the edit would make the position unsound",
-            _ => "no such number",
+        self.told().1
+    }
+
+    /// The square that goes with 1, 0 with every other number.
+    #[must_use]
+    pub const fn square(self) -> u8 {
+        match self {
+            Self::NotSound { square } => square,
+            _ => 0,
+        }
+    }
+
+    const fn told(self) -> (u8, &'static str) {
+        match self {
+            Self::NotSound { .. } => (1, "the position is not sound"),
+            Self::BadNumber => (2, "a number is out of range"),
+            Self::NothingThere => (3, "nothing on the from square"),
+            Self::OtherSide => (4, "the piece is the other side's"),
+            Self::NoPromotion => (5, "the piece has no promoted form"),
+            Self::OwnPiece => (6, "own piece on the to square"),
+            Self::TakesKing => (7, "the move would take a king"),
+            Self::DropPromoted => (8, "drop of a promoted piece"),
+            Self::DropOccupied => (9, "drop on an occupied square"),
+            Self::NotInHand => (10, "that kind is not in hand"),
+            Self::LastPly => (11, "the ply is already 65535"),
+            Self::ShortBuffer => (12, "the buffer is shorter than the text"),
+            Self::EditUnsound => (13, "the edit would make the position unsound"),
+        }
+    }
+
+    fn by(number: u8, square: u8) -> Self {
+        match number {
+            1 => Self::NotSound { square },
+            2 => Self::BadNumber,
+            3 => Self::NothingThere,
+            4 => Self::OtherSide,
+            5 => Self::NoPromotion,
+            6 => Self::OwnPiece,
+            7 => Self::TakesKing,
+            8 => Self::DropPromoted,
+            9 => Self::DropOccupied,
+            10 => Self::NotInHand,
+            11 => Self::LastPly,
+            12 => Self::ShortBuffer,
+            13 => Self::EditUnsound,
+            _ => unreachable!("the archive is of another version: number {number}"),
         }
     }
 }
 
 impl fmt::Display for Refused {
     fn fmt(&self, f: &mut fmt::Formatter<'_>) -> fmt::Result {
-        write!(f, "{}: {}", self.number, self.meaning())?;
-        if self.square != 0 {
-            write!(f, ", first at square {}", self.square)?;
+        write!(f, "{}: {}", self.number(), self.meaning())?;
+        if self.square() != 0 {
+            write!(f, ", first at square {}", self.square())?;
         }
         Ok(())
     }
@@ -66,14 +104,14 @@ impl fmt::Debug for Refused {
 impl core::error::Error for Refused {}
 
 /// The value where the call was done.
-pub(crate) fn told<T>(told: Told, value: T) -> Result<T, Refused> {
-    match told {
-        Told { number: 0, .. } => Ok(value),
-        Told { number, square } => Err(Refused { number, square }),
+pub(crate) fn done<T>(told: Told, value: T) -> Result<T, Refused> {
+    match told.number {
+        0 => Ok(value),
+        number => Err(Refused::by(number, told.square)),
     }
 }
 
 /// The same, of a call without a position.
 pub(crate) fn numbered<T>(number: u8, value: T) -> Result<T, Refused> {
-    told(Told { number, square: 0 }, value)
+    done(Told { number, square: 0 }, value)
 }

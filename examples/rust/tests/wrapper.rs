@@ -27,7 +27,7 @@ fn positions_that_differ_in_a_stray_bit_differ() {
     let mut unsound = board;
     unsound.players[0] = with_stray_bits(board.players[0]);
     assert_eq!(board.soundness(), Ok(()));
-    assert_eq!(unsound.soundness(), Err(Refused { number: Refused::NOT_SOUND, square: 0 }));
+    assert_eq!(unsound.soundness(), Err(Refused::NotSound { square: 0 }));
     assert!(unsound != board);
 }
 

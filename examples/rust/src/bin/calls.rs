@@ -13,16 +13,20 @@ fn squares(name: &str, number: u8, s: Set) {
     println!();
 }
 
-fn refused<T>(answer: &Result<T, Refused>) -> Refused {
-    answer.as_ref().err().copied().unwrap_or(Refused { number: 0, square: 0 })
+fn number_of<T>(answer: &Result<T, Refused>) -> u8 {
+    answer.as_ref().err().map_or(0, |refused| refused.number())
+}
+
+fn square_of<T>(answer: &Result<T, Refused>) -> u8 {
+    answer.as_ref().err().map_or(0, |refused| refused.square())
 }
 
 fn result(name: &str, r: Result<Set, Refused>) {
-    squares(name, refused(&r).number, r.unwrap_or_default());
+    squares(name, number_of(&r), r.unwrap_or_default());
 }
 
 fn number(name: &str, r: Result<u8, Refused>) {
-    println!("{name}: {}, {}", refused(&r).number, r.unwrap_or(0));
+    println!("{name}: {}, {}", number_of(&r), r.unwrap_or(0));
 }
 
 fn form(name: &str, r: Result<Option<u8>, Refused>) {
@@ -30,11 +34,11 @@ fn form(name: &str, r: Result<Option<u8>, Refused>) {
 }
 
 fn told(name: &str, r: Result<(), Refused>) {
-    println!("{name}: {}, square {}", refused(&r).number, refused(&r).square);
+    println!("{name}: {}, square {}", number_of(&r), square_of(&r));
 }
 
 fn told_number(name: &str, r: Result<u8, Refused>) {
-    println!("{name}: {}, square {}, {}", refused(&r).number, refused(&r).square, r.unwrap_or(0));
+    println!("{name}: {}, square {}, {}", number_of(&r), square_of(&r), r.unwrap_or(0));
 }
 
 fn told_form(name: &str, r: Result<Option<u8>, Refused>) {
@@ -70,10 +74,10 @@ fn sets() -> Result<(), Refused> {
     set("file", file);
     result("pattern 512", Set::from_file(8, 512));
     let none_such = file.get_file(10);
-    println!("pattern: 0, {}; {}, {}", file.get_file(8)?, refused(&none_such).number, none_such.unwrap_or(0));
+    println!("pattern: 0, {}; {}, {}", file.get_file(8)?, number_of(&none_such), none_such.unwrap_or(0));
     let bad = file.contains(0);
     let [a, b] = [file.contains(a8)?, file.contains(a9)?].map(u8::from);
-    println!("contains: 0, {a}; 0, {b}; {}, {}", refused(&bad).number, u8::from(bad.unwrap_or(false)));
+    println!("contains: 0, {a}; 0, {b}; {}, {}", number_of(&bad), u8::from(bad.unwrap_or(false)));
     number("square", Square::new(8, 1));
     number("no square", Square::new(8, 10));
     number("file", Square::file(a8));
@@ -138,7 +142,7 @@ fn positions() -> Result<(), Refused> {
     board.hands[0] = 19;
     told("too many pawns", board.ply_set(1));
     let ply = board.ply();
-    println!("ply: {}, {}", refused(&ply).number, ply.unwrap_or(0));
+    println!("ply: {}, {}", number_of(&ply), ply.unwrap_or(0));
     Ok(())
 }
 

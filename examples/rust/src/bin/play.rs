@@ -11,7 +11,7 @@ fn lamps(name: &str, set: Set) {
 
 /// 0, or the number of the refusal.
 fn number<T>(answer: Result<T, Refused>) -> u8 {
-    answer.err().map_or(0, |refused| refused.number)
+    answer.err().map_or(0, |refused| refused.number())
 }
 
 fn send(board: &Position, room: usize) {
@@ -79,7 +79,7 @@ fn edits() -> Result<(), Refused> {
     // A byte that no call wrote.
     board.board[usize::from(square(5, b'E')?) - 1] = 15;
     if let Err(refused) = board.soundness() {
-        println!("soundness: {}, square {}", refused.number, refused.square);
+        println!("soundness: {}, square {}", refused.number(), refused.square());
     }
     send(&board, TEXT_MAX);
     Ok(())
