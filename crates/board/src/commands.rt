@@ -7,6 +7,7 @@ use crate::game::WAIT;
 use crate::game::after;
 use crate::game::is_game;
 use crate::game::obey;
+use crate::game::played;
 use crate::game::say_stop;
 use crate::game::start;
 use crate::lamps::lamp;
@@ -25,6 +26,7 @@ use crate::notation::square;
 use crate::text::BYE;
 use crate::text::FORMS;
 use crate::text::NO_PLAYER;
+use crate::text::NOTHING_THERE;
 use crate::text::READY;
 use crate::text::USI_NAMES;
 use crate::text::form_of;
@@ -145,7 +147,7 @@ fn next(line: Line, word: Word) -> Line {
         return begin(command_of(word));
     }
     if is_game(line.command) {
-        return line.ordered(PLAY);
+        return played(line, word);
     }
     if line.command == POSITION {
         return start(line, word);
@@ -257,7 +259,7 @@ fn tell(command: u8, p: Position, number: u32) -> bool {
         SHOW => show(p),
         LAMPS => lamps(p, number),
         NUMBERS => say_lines(true, 0, FORMS),
-        HELP => say_lines(true, FORMS + 1, IS_READY),
+        HELP => say_lines(true, FORMS + 1, NOTHING_THERE - FORMS - 1),
         QUIT => say_line(BYE) && false,
         USI => say_lines(true, USI_NAMES, 3),
         IS_READY => say_line(READY),

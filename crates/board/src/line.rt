@@ -1,19 +1,19 @@
 // A line word by word. A word is obeyed, or its number kept, when it ends, so that a line may be as long as a game.
 
 // The longest name of a command has ten letters, so a word of this many is none, and no more of it is kept.
-const ROOM: usize = 11;
+const ROOM: usize = 12;
 
-// The letters of a word, with newlines behind them, and how many there are: one more than fit where there were more.
+// The first letters of a word, with newlines behind them, and how many they are.
 pub struct Word {
     pub length: usize,
-    pub letters: [u8; 12],
+    pub letters: [u8; ROOM],
 }
 
 impl Word {
     pub fn empty() -> Self {
         Self {
             length: 0,
-            letters: [b'\n'; 12],
+            letters: [b'\n'; ROOM],
         }
     }
 
@@ -27,10 +27,7 @@ impl Word {
                 letters,
             };
         }
-        Self {
-            length: ROOM + 1,
-            letters,
-        }
+        self
     }
 }
 

@@ -1,6 +1,7 @@
 // Squares, pieces, moves and numbers as shogi programs write them: 7g, +p, 8h2b+, P*5e. What a word stands for is a number below
 // MALFORMED.
 use crate::line::Word;
+use crate::line::place_in;
 use position::Move;
 use squares::Color;
 use squares::FormAnswer;
@@ -34,8 +35,9 @@ pub fn two_bytes(n: u32) -> u16 {
     (n % 65536) as u16
 }
 
-// A digit and a small letter are a square: 0 where it is not on the board, which the calls refuse.
-fn square_of(file: u8, rank: u8) -> u32 {
+// A digit and a letter in either case are a square: 0 where it is not on the board, which the calls refuse.
+fn square_of(file: u8, letter: u8) -> u32 {
+    let rank = small(letter);
     match file {
         b'0'..=b'9' => match rank {
             b'a'..=b'z' => or_zero(Square::new(file - b'0', rank - b'a' + 1)) as u32,
@@ -53,15 +55,10 @@ pub fn square(word: Word) -> u32 {
     square_of(w[0], w[1])
 }
 
-// b or w.
 pub fn color(word: Word) -> u32 {
-    if word.length != 1 {
-        return MALFORMED;
-    }
-    let w = word.letters;
-    match w[0] {
-        b'b' => Color::BLACK as u32,
-        b'w' => Color::WHITE as u32,
+    match place_in(b"b\nw\nblack\nwhite\n", word) {
+        1 | 3 => Color::BLACK as u32,
+        2 | 4 => Color::WHITE as u32,
         _ => MALFORMED,
     }
 }
@@ -164,6 +161,15 @@ fn grown(value: u32, b: u8) -> u32 {
 pub fn count(word: Word) -> u32 {
     let n = ply(word);
     if n < 256 { n } else { MALFORMED }
+}
+
+// Whether a word begins as a move does, and so as no command.
+pub fn begins_a_move(word: Word) -> bool {
+    let w = word.letters;
+    match w[0] {
+        b'0'..=b'9' | b'+' => true,
+        _ => w[1] == b'*',
+    }
 }
 
 // A move of `side`: from, to and a + where it promotes; or a piece, * and where it is dropped. +P*5e is a move too, which the

@@ -9,7 +9,7 @@ use crate::out::say;
 use position::Position;
 use sfen::write_sfen;
 
-const TEXT: [u8; 2024] = *b"0: done
+const TEXT: [u8; 2164] = *b"0: done
 1: position not sound, with the square
 2: a number out of range: square, file, pattern, kind, colour, cell, shift, ply 0, hand kind
 3: nothing on the from square
@@ -24,22 +24,25 @@ const TEXT: [u8; 2024] = *b"0: done
 12: lent buffer shorter than the text
 13: the edit would make the position unsound
 unknown command: help lists them
-startpos, startpos 7g7f 3c3d: the start position, and moves from there
+startpos, startpos 7g7f 3c3d: the start position, and moves from it
 empty: no piece, for put and hand to begin from
-move 7g7f 3c3d, 7g7f alone, 8h2b+ (promotes), P*5e or p*5e (drops): moves, up to the first that is refused
-put 5e P, put 5e +p, put 5e . (nothing): changes one cell, upper case is Black's
-hand b P 2, hand w P 0: how many of a kind, in either case, Black or White holds
-side b, side w: who is to move
+move 7g7f 3c3d, or 7g7f alone: moves; 8h2b+ promotes, P*5e drops
+put 5e P, put 5e +p, put 5e . (none): a cell, upper case is Black's
+hand b P 2, hand white P 0: how many of a kind are held, 0 to 255
+side b, side w, side black, side white: who is to move
 ply 7: the number of the move to come, 1 to 65535
 position startpos, position startpos moves 7g7f 3c3d: as in USI
 sfen: the position as text
 show, d: the board, upper case is Black's, and its text
-lamps black (white, occupied, vacant), lamps P, lamps 7g (pieces like that one): a set of squares
+lamps black (white, occupied, vacant), b (bishops), 7g (all like it)
 numbers: what the answer numbers mean
 help: these lines
 quit: ends the program, as ctrl-D does
 usi: the program's name, as in USI
-isready: readyok, as in USI; usinewgame, setoption, gameover, ponderhit and stop are taken silently
+isready: readyok, as in USI
+usinewgame, setoption, gameover, ponderhit, stop: taken silently
+Moves are played up to the first that is refused. But for put, pieces may be
+in either case, and so may squares: 7G7F is 7g7f, and p*5E is P*5e.
 nothing stands there
 2: no such square: files are 1 to 9, ranks a to i
 2: no such kind in hand: P L N S G B R are held
@@ -52,36 +55,46 @@ id name Pulfredan
 id author the Pulfredan developers
 usiok
 readyok
-Pulfredan, a shogi board. Moves are typed as 7g7f; help lists all commands, quit ends.
+Pulfredan, a shogi board. Moves are typed as 7g7f; help lists all, quit ends.
+: the board is as it was
+: the board is at the start position
+: the moves before it stay
 bye
 ";
 
 // The line for an unknown command, behind which those of the commands stand, and the others.
 pub const FORMS: u8 = 14;
 
-pub const NOTHING_THERE: u8 = 31;
+pub const NOTHING_THERE: u8 = 34;
 
-const NO_SQUARE: u8 = 32;
+const NO_SQUARE: u8 = 35;
 
-const NEVER_HELD: u8 = 33;
+const NEVER_HELD: u8 = 36;
 
-const NO_PLY: u8 = 34;
+const NO_PLY: u8 = 37;
 
-const SECOND_KING: u8 = 35;
+const SECOND_KING: u8 = 38;
 
-const TOO_MANY: u8 = 36;
+const TOO_MANY: u8 = 39;
 
-pub const UNREAD: u8 = 37;
+pub const UNREAD: u8 = 40;
 
-pub const NO_PLAYER: u8 = 38;
+pub const NO_PLAYER: u8 = 41;
 
-pub const USI_NAMES: u8 = 39;
+pub const USI_NAMES: u8 = 42;
 
-pub const READY: u8 = 42;
+pub const READY: u8 = 45;
 
-pub const GREETING: u8 = 43;
+pub const GREETING: u8 = 46;
 
-pub const BYE: u8 = 44;
+// Where the board is after a stop.
+pub const AS_IT_WAS: u8 = 47;
+
+pub const AT_START: u8 = 48;
+
+pub const BEFORE_IT: u8 = 49;
+
+pub const BYE: u8 = 50;
 
 // A black and a white king.
 const KING: u8 = 8;
