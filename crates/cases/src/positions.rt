@@ -9,6 +9,8 @@ use position::MoveNumbers;
 use position::Position;
 use position::Told;
 use squares::Bitboard;
+use squares::PieceKind;
+use squares::Square;
 
 // Where the parts stand in a line: cells, the sets of two words each, king squares, hands, side, ply, last move.
 const CELLS: usize = 1;
@@ -58,9 +60,9 @@ fn set(nums: &Numbers, first: usize, second: usize) -> Bitboard {
     }
 }
 
-fn cells(nums: &Numbers) -> [u8; 81] {
-    let mut board = [0u8; 81];
-    for i in 0..81usize {
+fn cells(nums: &Numbers) -> [u8; Square::NUM] {
+    let mut board = [0u8; Square::NUM];
+    for i in 0..Square::NUM {
         board[i] = byte_at(nums, CELLS + i);
     }
     board
@@ -74,9 +76,9 @@ fn hands(nums: &Numbers) -> [u8; 14] {
     hands
 }
 
-fn kinds(nums: &Numbers) -> [Bitboard; 14] {
-    let mut kinds = [Bitboard::empty(); 14];
-    for i in 0..14usize {
+fn kinds(nums: &Numbers) -> [Bitboard; PieceKind::NUM] {
+    let mut kinds = [Bitboard::empty(); PieceKind::NUM];
+    for i in 0..PieceKind::NUM {
         kinds[i] = set(nums, KINDS + 2 * i, KINDS + 2 * i + 1);
     }
     kinds
@@ -114,9 +116,9 @@ fn put_set(ans: &mut Numbers, at: usize, set: Bitboard) -> usize {
     put(ans, at, set.hi)
 }
 
-fn put_kinds(ans: &mut Numbers, at: usize, kinds: [Bitboard; 14]) -> usize {
+fn put_kinds(ans: &mut Numbers, at: usize, kinds: [Bitboard; PieceKind::NUM]) -> usize {
     let mut at = at;
-    for i in 0..14usize {
+    for i in 0..PieceKind::NUM {
         let set = kinds[i];
         at = put_set(ans, at, set);
     }

@@ -4,6 +4,7 @@ ghost use Rattle.sfen.specs.Text.{run, rankText, rankCells, boardText, s
 ghost use Rattle.sfen.specs.Inner.{Room, Puts};
 use crate::letters::put_piece;
 use crate::line::put;
+use squares::Square;
 
 // A run of empty cells as one digit; none where there is none.
 fn put_run(line: &mut [u8; 168], at: usize, empty: u8) -> usize
@@ -16,7 +17,7 @@ fn put_run(line: &mut [u8; 168], at: usize, empty: u8) -> usize
     put(line, at, 48 + empty)
 }
 
-fn put_rank(line: &mut [u8; 168], at: usize, board: &[u8; 81], rank: usize) -> usize
+fn put_rank(line: &mut [u8; 168], at: usize, board: &[u8; Square::NUM], rank: usize) -> usize
     requires { ⌜ Room (now line) at (rankText 0 (rankCells 9 (now board) rank)) × (1 ≤ rank) × (rank ≤ 9) ⌝ }
     ensures { λ r. ⌜ Puts (now (line .entry)) at (now (line .exit)) r (rankText 0 (rankCells 9 (now (board .entry)) rank)) ⌝ }
 {
@@ -37,7 +38,7 @@ fn put_rank(line: &mut [u8; 168], at: usize, board: &[u8; 81], rank: usize) -> u
     put_run(line, to, empty)
 }
 
-pub(crate) fn put_board(line: &mut [u8; 168], at: usize, board: &[u8; 81]) -> usize
+pub(crate) fn put_board(line: &mut [u8; 168], at: usize, board: &[u8; Square::NUM]) -> usize
     requires { ⌜ Room (now line) at (boardText shogi (now board)) ⌝ }
     ensures { λ r. ⌜ Puts (now (line .entry)) at (now (line .exit)) r (boardText shogi (now (board .entry))) ⌝ }
 {

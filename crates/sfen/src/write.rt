@@ -12,6 +12,7 @@ use crate::line::put;
 use crate::line::put_number;
 use position::Position;
 use position::Told;
+use squares::Square;
 
 // The number with the square that goes with 1, and how many bytes were written: 0 on a refusal.
 #[repr(C)]
@@ -28,7 +29,7 @@ fn side_byte(side: u8) -> u8
 
 fn put_text<'a>(
     line: &mut [u8; 168],
-    board: &'a [u8; 81],
+    board: &'a [u8; Square::NUM],
     side: u8,
     hands: &'a [u8; 14],
     ply: u16,
