@@ -4,13 +4,9 @@ use native.Mathlib.Numerals.{add-one}
 use lib.ListN.{length, length-set}
 use lib.Seq.{take-suc-set}
 use borrow.Author.Rules.{rules}
-use Rattle.sfen.proofs.line.put.Statement.{statement}
-use Rattle.sfen.proofs.line.put.Tie as tie
+use Rattle.sfen.proofs.line.put.Goals as goal
 
-returns : tie.Need-returns
+pub returns : goal.returns
 returns c =
     let h : c.args.at < length c.args.line.now = omega (arith, c.requires.fits, c.requires.size) in
     record { kept = simp length-set; len = search rules; bytes = rw add-one (take-suc-set _ _ _ h) }
-
-pub put_spec : {M : Type 1} → statement M
-put_spec = tie.close (tie.spec (search rules) (search rules) returns)
