@@ -7,28 +7,28 @@ use position::{MoveNumbers, Told};
 use squares::{Bitboard, FormAnswer, NumberAnswer, SetAnswer};
 
 #[repr(C)]
-#[derive(Drop)]
+#[derive(Clone, Copy)]
 pub struct CNumber {
     pub number: u8,
     pub value: u8,
 }
 
 #[repr(C)]
-#[derive(Drop)]
+#[derive(Clone, Copy)]
 pub struct CSet {
     pub number: u8,
     pub set: Bitboard,
 }
 
 #[repr(C)]
-#[derive(Drop)]
+#[derive(Clone, Copy)]
 pub struct CTruth {
     pub number: u8,
     pub truth: bool,
 }
 
 #[repr(C)]
-#[derive(Drop)]
+#[derive(Clone, Copy)]
 pub struct CPattern {
     pub number: u8,
     pub pattern: u16,
@@ -36,7 +36,7 @@ pub struct CPattern {
 
 // Square 0 of the empty set.
 #[repr(C)]
-#[derive(Drop)]
+#[derive(Clone, Copy)]
 pub struct CPop {
     pub square: u8,
     pub set: Bitboard,
@@ -44,7 +44,7 @@ pub struct CPop {
 
 // Four zeros where there is no last move.
 #[repr(C)]
-#[derive(Drop)]
+#[derive(Clone, Copy)]
 pub struct CLast {
     pub told: Told,
     pub last: MoveNumbers,

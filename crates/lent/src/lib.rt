@@ -1,4 +1,6 @@
 // The position lent by its owner and changed in place: a thin entry over the move by value.
+#![tactic(auto)]
+
 ghost use Rattle.std.specs.Prelude.{◌≡◌};
 ghost use Rattle.lent.specs.InPlace.{Leaves};
 ghost use Rattle.position.specs.Moves.{move_played};

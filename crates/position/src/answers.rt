@@ -5,58 +5,58 @@ use crate::position::Position;
 use squares::Bitboard;
 
 #[repr(C)]
-#[derive(Drop)]
+#[derive(Clone, Copy)]
 pub struct Told {
     pub number: u8,
     pub square: u8,
 }
 
-#[derive(Drop)]
+#[derive(Clone, Copy)]
 pub enum Stands {
     Nothing,
     Piece(u8),
 }
 
-#[derive(Drop)]
+#[derive(Clone, Copy)]
 pub struct ToldPiece {
     pub told: Told,
     pub stands: Stands,
 }
 
 #[repr(C)]
-#[derive(Drop)]
+#[derive(Clone, Copy)]
 pub struct ToldSet {
     pub told: Told,
     pub set: Bitboard,
 }
 
 #[repr(C)]
-#[derive(Drop)]
+#[derive(Clone, Copy)]
 pub struct ToldNumber {
     pub told: Told,
     pub value: u8,
 }
 
 #[repr(C)]
-#[derive(Drop)]
+#[derive(Clone, Copy)]
 pub struct ToldPly {
     pub told: Told,
     pub ply: u16,
 }
 
-#[derive(Drop)]
+#[derive(Clone, Copy)]
 pub enum KingSquare {
     Nothing,
     At(u8),
 }
 
-#[derive(Drop)]
+#[derive(Clone, Copy)]
 pub struct ToldKing {
     pub told: Told,
     pub king: KingSquare,
 }
 
-#[derive(Drop)]
+#[derive(Clone, Copy)]
 pub struct ToldLast {
     pub told: Told,
     pub last: LastMove,
@@ -64,7 +64,7 @@ pub struct ToldLast {
 
 // Of a call that changes a position: the position after it, or as given. It stands first, so that no unused bytes lie
 // before it and it is copied once.
-#[derive(Drop)]
+#[derive(Clone, Copy)]
 pub struct Answer {
     pub position: Position,
     pub told: Told,

@@ -1,4 +1,6 @@
 // Positions and moves: the plain machine of cells and hands, with the sets that follow them.
+#![tactic(auto)]
+
 mod answers;
 mod carry;
 mod cells;

@@ -6,13 +6,13 @@ ghost use Rattle.position.specs.Moves.{bad_move, numbers_of};
 
 use squares::{Piece, Square};
 
-#[derive(Drop)]
+#[derive(Clone, Copy)]
 pub enum Move {
     Normal { from: u8, to: u8, promote: bool },
     Drop { piece: u8, to: u8 },
 }
 
-#[derive(Drop)]
+#[derive(Clone, Copy)]
 pub enum LastMove {
     Nothing,
     Was(Move),
@@ -21,7 +21,7 @@ pub enum LastMove {
 // A stored last move: 0 0 0 0 for none, 1 from to promote, 2 piece to 0. Numbers only, so that whatever a caller lends is
 // a value, and a bad one makes the position unsound.
 #[repr(C)]
-#[derive(Drop)]
+#[derive(Clone, Copy)]
 pub struct MoveNumbers {
     pub tag: u8,
     pub a: u8,

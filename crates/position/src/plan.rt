@@ -7,7 +7,7 @@ use crate::cells::promoted;
 use crate::mv::{Move, MoveNumbers};
 
 // `left` leaves `from`, `taken` leaves `to`, `piece` comes to `to`. A number but 0: nothing is done.
-#[derive(Drop)]
+#[derive(Clone, Copy)]
 pub struct Plan {
     pub number: u8,
     pub from: u8,

@@ -9,7 +9,7 @@ use crate::mv::MoveNumbers;
 use squares::{Bitboard, Color, Marks, PieceKind, PopAnswer, Square};
 
 #[repr(C)]
-#[derive(Drop)]
+#[derive(Clone, Copy)]
 pub struct Position {
     pub board: [u8; Square::NUM],
     pub hands: [u8; 14],

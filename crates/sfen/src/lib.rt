@@ -1,4 +1,6 @@
 // The SFEN text of a position, written into bytes that the caller lends.
+#![tactic(auto)]
+
 mod board;
 mod hands;
 mod letters;

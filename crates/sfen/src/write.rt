@@ -12,7 +12,7 @@ use squares::Square;
 
 // The number with the square that goes with 1, and how many bytes were written: 0 on a refusal.
 #[repr(C)]
-#[derive(Drop)]
+#[derive(Clone, Copy)]
 pub struct TextAnswer {
     pub told: Told,
     pub length: usize,

@@ -3,41 +3,41 @@
 use crate::bitboard::Bitboard;
 
 // A square, file, rank, colour, kind, limit, letter or piece.
-#[derive(Drop)]
+#[derive(Clone, Copy)]
 pub enum NumberAnswer {
     Number(u8),
     BadNumber,
 }
 
 // Another form of a kind or a piece, or nothing where it has none.
-#[derive(Drop)]
+#[derive(Clone, Copy)]
 pub enum FormAnswer {
     Form(u8),
     Nothing,
     BadNumber,
 }
 
-#[derive(Drop)]
+#[derive(Clone, Copy)]
 pub enum SetAnswer {
     Set(Bitboard),
     BadNumber,
 }
 
-#[derive(Drop)]
+#[derive(Clone, Copy)]
 pub enum TruthAnswer {
     Truth(bool),
     BadNumber,
 }
 
 // The nine ranks of one file, rank A lowest.
-#[derive(Drop)]
+#[derive(Clone, Copy)]
 pub enum PatternAnswer {
     Pattern(u16),
     BadNumber,
 }
 
 // The smallest square and the set without it, or nothing of the empty set.
-#[derive(Drop)]
+#[derive(Clone, Copy)]
 pub enum PopAnswer {
     Square(u8, Bitboard),
     Nothing,

@@ -8,14 +8,14 @@ ghost use Rattle.squares.specs.Answers.{set_given, truth_given, pattern_given, p
 use crate::answers::{PatternAnswer, PopAnswer, SetAnswer, TruthAnswer};
 
 #[repr(C)]
-#[derive(Drop)]
+#[derive(Clone, Copy)]
 pub struct Bitboard {
     pub lo: u64,
     pub hi: u64,
 }
 
 // Where a shift goes: down adds to the rank, up subtracts, left adds to the file, right subtracts.
-#[derive(Drop)]
+#[derive(Clone, Copy)]
 pub enum Direction {
     Down,
     Up,

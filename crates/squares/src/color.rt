@@ -5,7 +5,7 @@ ghost use Rattle.squares.specs.Answers.{number_given, other_colour_answer};
 
 use crate::answers::NumberAnswer;
 
-#[derive(Drop)]
+#[derive(Clone, Copy)]
 pub struct Color;
 
 impl Color {

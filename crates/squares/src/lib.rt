@@ -1,4 +1,6 @@
 // Squares, colours, kinds, pieces and sets of squares: the bottom layer, which rests on nothing.
+#![tactic(auto)]
+
 mod answers;
 mod bitboard;
 mod by_cell;

@@ -9,7 +9,7 @@ use crate::piece_kind::PieceKind;
 use crate::square::Square;
 
 // The squares of each colour and of each kind; 2 and empty sets where a cell is bad.
-#[derive(Drop)]
+#[derive(Clone, Copy)]
 pub struct Marks {
     pub number: u8,
     pub players: [Bitboard; Color::NUM],

@@ -7,7 +7,7 @@ ghost use Rattle.squares.specs.Answers.{number_given, form_given, piece_answer, 
 use crate::answers::{FormAnswer, NumberAnswer};
 use crate::piece_kind::PieceKind;
 
-#[derive(Drop)]
+#[derive(Clone, Copy)]
 pub struct Piece;
 
 impl Piece {

@@ -6,7 +6,7 @@ ghost use Rattle.squares.specs.Answers.{number_given, form_given, promoted_answe
 
 use crate::answers::{FormAnswer, NumberAnswer};
 
-#[derive(Drop)]
+#[derive(Clone, Copy)]
 pub struct PieceKind;
 
 impl PieceKind {
