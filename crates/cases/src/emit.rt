@@ -1,4 +1,6 @@
 // Answers as text. The text is gathered in an array, which is written out when it is full and before each read.
+ghost use Rattle.std.specs.Prelude.{◌<◌};
+
 use crate::numbers::{MALFORMED, Numbers, read_u64};
 
 pub const ROOM: usize = 65536;
@@ -101,7 +103,9 @@ fn digits(n: u64) -> [u8; 20] {
 }
 
 // How many zeros stand before the number; a last one is the number.
-fn leading_zeros(text: &[u8; 20]) -> usize {
+fn leading_zeros(text: &[u8; 20]) -> usize
+    ensures { result < 20 }
+{
     for i in 0..19usize {
         if text[i] != b'0' {
             return i;
