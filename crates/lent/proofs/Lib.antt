@@ -1,7 +1,3 @@
 -- Crates above cite Laws alone.
-mod Args
-mod Change
-mod Look
-mod HandOn
 mod Ends
 pub mod Laws

@@ -1,0 +1,9 @@
+use mathlib.Core.Path.{refl}
+use native.Mathlib.Omega.{arith}
+use Rattle.position.specs.Answers.{hand_at}
+use borrow.Author.Rules.{rules}
+use Rattle.position.proofs.hand.index.Goals as goal
+
+pub returns : goal.returns
+unfolding hand_at
+returns c = (refl, omega arith)
