@@ -10,7 +10,7 @@ use lib.Seq.{set-set}
 use lib.Dec.{leb}
 use borrow.Author.Tests.{eqb-false}
 use Rattle.squares.specs.Board.{on_board}
-use Rattle.squares.specs.Kinds.{kind_row, good_cell, colour_of, kind_of}
+use Rattle.squares.specs.Kinds.{kind_row, good_cell, kind_of}
 use Rattle.squares.proofs.Laws.{board_on, board_range, cell-piece, piece-cell, cell-zero, colour_range, black_kind, white_kind, other_good}
 use Rattle.position.specs.Machine.{Machine, machine, full, cell_at, king_square}
 use Rattle.position.specs.Sound.{sound, standing, good_last}

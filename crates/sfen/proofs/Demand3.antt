@@ -1,7 +1,7 @@
 -- Demand 3: "Take any two lists of sound positions. Write each position's text as 01 defines it, with one newline byte after
 -- each text, and join them. If both lists give the same bytes, they have the same length and agree place by place in board,
 -- side, hands and move number."
-use Prim.Native.Nat.{ℕ, zero, suc, ◌+◌, ◌-◌, ◌≤◌, ◌<◌}
+use Prim.Native.Nat.{ℕ, zero, suc, ◌+◌, ◌-◌, ◌<◌}
 use native.Mathlib.Omega.{arith}
 use native.Mathlib.Nat.{le_of_suc-le-suc, not-suc-le-zero}
 use mathlib.Core.Path.{◌≡◌, sym, ◌∙◌}
@@ -18,7 +18,7 @@ use Rattle.position.specs.Machine.{machine, cell_at}
 use Rattle.position.specs.Sound.{sound}
 use Rattle.position.specs.Answers.{hand_at}
 use Rattle.position.proofs.Laws.{Sized, sound_order}
-use Rattle.sfen.specs.Text.{shogi, letter_of, text, position_text}
+use Rattle.sfen.specs.Text.{shogi, letter_of, position_text}
 use Rattle.sfen.specs.Lists.{joined, AllSound, Agree, AllAgree}
 use Rattle.sfen.proofs.Cut.{Over, over_less, cut}
 use Rattle.sfen.proofs.Boards.{GoodCells}

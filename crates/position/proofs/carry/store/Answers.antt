@@ -3,7 +3,6 @@ use borrow.Author.Tests.{eq-eqb, ne_eqb}
 use Rattle.squares.specs.Kinds.{other_colour}
 use Rattle.position.specs.Sound.{top_ply}
 use Rattle.position.specs.Plans.{stored_by}
-use borrow.Author.Rules.{rules}
 use Rattle.position.proofs.carry.store.Goals as goal
 
 pub overflow_sub-q : goal.overflow_sub-q

@@ -1,5 +1,4 @@
 use mathlib.Core.Path.{◌≡◌, sym, ◌∙◌}
-use mathlib.Core.Logic.{⊎_elim}
 use Prim.Native.Nat.{◌≤◌}
 use mathlib.Core.Bool.{true}
 use native.Mathlib.Omega.{arith}
@@ -49,15 +48,17 @@ pub returns-then-is_good : goal.returns-then-is_good
 returns-then-is_good c =
     let size : Sized c.args.p = sized _ _ c.well_formed.0 in
     let good : good_piece c.args.cell ≡ true = sym c.is_good.ensures ∙ c.if-is_good.true in
-    let toggled : Coloured c.args.p c.args.cell c.args.square c.if-cell-ne0.q = elim c.if-cell-ne0.branch
-    [ then-cell-ne0 w ↦ w.q-is ∙ colour_toggled _ _ _ _ _ _ _ size.players w.if-cell-ne0.true c.single-one.ensures w.color_of.ensures w.xor.ensures
-    | else-cell-ne0 w ↦ w.q-is ∙ colour_same _ _ _ w.if-cell-ne0.false ] in
+    let toggled : Coloured c.args.p c.args.cell c.args.square c.if-cell-ne0.q = elim c.if-cell-ne0.branch [
+      | then-cell-ne0 w ↦ w.q-is ∙ colour_toggled _ _ _ _ _ _ _ size.players w.if-cell-ne0.true c.single-one.ensures w.color_of.ensures w.xor.ensures
+      | else-cell-ne0 w ↦ w.q-is ∙ colour_same _ _ _ w.if-cell-ne0.false
+    ] in
     kind-toggled _ _ _ _ _ _ _ _ toggled size.kinds good c.single-one.ensures c.kind_of.ensures c.xor-then-is_good.ensures
 
 pub returns-else-is_good : goal.returns-else-is_good
 returns-else-is_good c =
     let size : Sized c.args.p = sized _ _ c.well_formed.0 in
-    let toggled : Coloured c.args.p c.args.cell c.args.square c.if-cell-ne0.q = elim c.if-cell-ne0.branch
-    [ then-cell-ne0 w ↦ w.q-is ∙ colour_toggled _ _ _ _ _ _ _ size.players w.if-cell-ne0.true c.single-one.ensures w.color_of.ensures w.xor.ensures
-    | else-cell-ne0 w ↦ w.q-is ∙ colour_same _ _ _ w.if-cell-ne0.false ] in
+    let toggled : Coloured c.args.p c.args.cell c.args.square c.if-cell-ne0.q = elim c.if-cell-ne0.branch [
+      | then-cell-ne0 w ↦ w.q-is ∙ colour_toggled _ _ _ _ _ _ _ size.players w.if-cell-ne0.true c.single-one.ensures w.color_of.ensures w.xor.ensures
+      | else-cell-ne0 w ↦ w.q-is ∙ colour_same _ _ _ w.if-cell-ne0.false
+    ] in
     kind-same _ _ _ _ toggled size.kinds (sym c.is_good.ensures ∙ c.if-is_good.false)

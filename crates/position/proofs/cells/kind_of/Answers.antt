@@ -1,6 +1,5 @@
 use mathlib.Core.Path.{sym}
 use native.Mathlib.Omega.{arith}
-use borrow.Author.Rules.{rules}
 use Rattle.squares.proofs.Laws.{black_kind, white_kind}
 use Rattle.position.proofs.cells.kind_of.Goals as goal
 

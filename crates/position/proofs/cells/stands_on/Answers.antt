@@ -1,6 +1,5 @@
 use borrow.Author.Tests.{eq-eqb, ne_eqb}
 use Rattle.position.specs.Answers.{stood}
-use borrow.Author.Rules.{rules}
 use Rattle.position.proofs.cells.stands_on.Goals as goal
 
 pub returns-then-stands-eq0 : goal.returns-then-stands-eq0

@@ -1,4 +1,3 @@
-use native.Mathlib.Omega.{arith}
 use mathlib.Core.Path.{sym, ap, ◌∙◌}
 use Rattle.squares.specs.Answers.{number_given}
 use Rattle.squares.proofs.Laws.{limit-value}

@@ -1,7 +1,6 @@
 use mathlib.Core.Path.{sym, ◌∙◌}
 use mathlib.Core.Bool.{true≢false}
 use native.Mathlib.Omega.{arith}
-use borrow.Author.Tests.{not-true, not-false}
 use Prim.Native.Nat.{◌≤◌}
 use Rattle.squares.proofs.Laws.{board_range}
 use Rattle.position.proofs.edits.with_cell.Goals as goal

@@ -1,7 +1,5 @@
 use mathlib.Core.Path.{sym, ◌∙◌}
 use mathlib.Core.Bool.{true≢false}
-use native.Mathlib.Omega.{arith}
-use borrow.Author.Tests.{not-true, not-false}
 use Rattle.position.proofs.Asking.{hand_range}
 use Rattle.position.proofs.edits.with_hand.Goals as goal
 

@@ -1,7 +1,5 @@
 use mathlib.Core.Path.{◌≡◌, sym, ap, ◌∙◌}
 use mathlib.Core.Bool.{true, false}
-use borrow.Author.Tests.{not-true, not-false}
-use borrow.Author.Rules.{rules}
 use Prim.Native.Nat.{ℕ}
 use Rattle.squares.specs.Kinds.{good_cell, colour_of}
 use Rattle.position.specs.Machine.{cell_at}

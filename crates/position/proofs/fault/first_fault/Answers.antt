@@ -1,9 +1,8 @@
 -- What is left to search holds the first faulty square, until one is found.
 use mathlib.Core.Path.{◌≡◌, refl, sym, ◌∙◌}
-use Prim.Native.Nat.{◌≤◌, ◌-◌}
 use native.Mathlib.Omega.{arith}
 use Rattle.position.specs.Sound.{faulty_at, first_fault}
-use Rattle.position.proofs.Reading.{left, left_all, left_none, left_line, left_here, left_next}
+use Rattle.position.proofs.Reading.{left_all, left_none, left_line, left_here, left_next}
 use Rattle.position.proofs.fault.first_fault.Goals as goal
 
 pub search-init : goal.search-init

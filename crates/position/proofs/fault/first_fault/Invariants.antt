@@ -1,8 +1,7 @@
-use mathlib.Core.Path.{◌≡◌, refl, sym, ◌∙◌}
+use mathlib.Core.Path.{◌≡◌}
 use Prim.Native.Nat.{◌≤◌, ◌-◌}
-use native.Mathlib.Omega.{arith}
 use Rattle.position.specs.Sound.{faulty_at, first_fault}
-use Rattle.position.proofs.Reading.{left, left_all, left_none, left_line, left_here, left_next}
+use Rattle.position.proofs.Reading.{left}
 use Rattle.position.proofs.fault.first_fault.Given as goal
 
 abbrev pub invariant-loop-back : goal.invariant-loop-back

@@ -1,9 +1,8 @@
-use Prim.Native.Nat.{ℕ, ◌-◌, ◌≤◌}
+use Prim.Native.Nat.{ℕ}
 use mathlib.Core.Path.{◌≡◌, sym, ◌∙◌}
-use mathlib.Core.Bool.{false}
 use native.Mathlib.Omega.{arith}
 use lib.ListN.{length-map}
-use Rattle.position.specs.Sound.{any_below, disagrees}
+use Rattle.position.specs.Sound.{disagrees}
 use Rattle.position.proofs.Agree.{any_none, any_more, any_at, disagrees_is}
 use Rattle.position.proofs.fault.kinds_differ.Goals as goal
 

@@ -3,7 +3,6 @@ use Prim.Native.Nat.{◌+◌, ◌-◌, ◌*◌}
 use native.Mathlib.Omega.{arith}
 use lib.ListN.{get_or-eq_default}
 use Rattle.position.specs.Answers.{hand_at}
-use borrow.Author.Rules.{rules}
 use Rattle.position.proofs.hand.in_hand.Goals as goal
 
 pub returns-then-at-lt14 : goal.returns-then-at-lt14

@@ -1,7 +1,6 @@
 use mathlib.Core.Path.{refl}
 use native.Mathlib.Omega.{arith}
 use Rattle.position.specs.Answers.{hand_at}
-use borrow.Author.Rules.{rules}
 use Rattle.position.proofs.hand.index.Goals as goal
 
 pub returns : goal.returns

@@ -1,6 +1,4 @@
 use Rattle.position.specs.Moves.{spent}
-use native.Mathlib.Omega.{arith}
-use borrow.Author.Rules.{rules}
 use Rattle.position.proofs.hand.spend.Goals as goal
 
 pub overflow_sub-out : goal.overflow_sub-out

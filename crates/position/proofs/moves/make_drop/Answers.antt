@@ -1,6 +1,6 @@
 use mathlib.Core.Path.{◌≡◌, sym, ◌∙◌}
 use Rattle.squares.proofs.Laws.{piece_kind}
-use Rattle.position.specs.Machine.{machine, cell_at}
+use Rattle.position.specs.Machine.{machine}
 use Rattle.position.specs.Answers.{first_fact}
 use Rattle.position.specs.Moves.{rule_facts, spent, next}
 use Rattle.position.specs.Plans.{drop_plan}

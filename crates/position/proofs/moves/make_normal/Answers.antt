@@ -1,7 +1,5 @@
 use mathlib.Core.Path.{◌≡◌, refl, sym, ap, ◌∙◌}
-use mathlib.Core.Logic.{⊎_elim}
 use Prim.Native.Nat.{ℕ}
-use native.Mathlib.Omega.{arith}
 use borrow.Author.Tests.{eqb-false}
 use Rattle.position.specs.Machine.{machine, cell_at}
 use Rattle.position.specs.Answers.{first_fact}
@@ -53,10 +51,11 @@ returns c =
     let piece : (c.in-Piece.piece ≡ cell_at c.args.p.board c.args.from) × (cell_at c.args.p.board c.args.from ≡ 0 → ⊥) = stood-piece _ _ (sym c.stands_on.ensures ∙ c.in-Piece.is) in
     let number : c.normal_refusal-number.result ≡ first_fact (rule_facts (machine c.args.p) (Normal c.args.from c.args.to c.args.promote)) = rw (← c.cell-target.ensures, ← piece.0) c.normal_refusal-number.ensures in
     let can : CanMove (machine c.args.p) c.args.from c.args.to c.args.promote = normal_passes _ _ _ _ c.requires.good (sym number ∙ c.if-number-ne0.false) in
-    let hands-are : c.match-stands_on-2.hands ≡ held c.args.p.side (cell_at c.args.p.board c.args.to) c.args.p.hands = elim c.match-stands_on-2.branch
-    [ in-Piece-stands_on w ↦
-        w.hands-is ∙ w.hold-more.ensures
-        ∙ ap (λ (t : ℕ). held c.args.p.side t c.args.p.hands) (stood-piece _ _ (sym c.stands_on-2.ensures ∙ w.in-Piece-stands_on.is)).0
-    | in_default-stands_on w ↦ w.hands-is ∙ held_nothing _ _ _ (stood_nothing _ (sym c.stands_on-2.ensures ∙ w.in_default-stands_on.is)) ] in
+    let hands-are : c.match-stands_on-2.hands ≡ held c.args.p.side (cell_at c.args.p.board c.args.to) c.args.p.hands = elim c.match-stands_on-2.branch [
+      | in-Piece-stands_on w ↦
+          w.hands-is ∙ w.hold-more.ensures
+          ∙ ap (λ (t : ℕ). held c.args.p.side t c.args.p.hands) (stood-piece _ _ (sym c.stands_on-2.ensures ∙ w.in-Piece-stands_on.is)).0
+      | in_default-stands_on w ↦ w.hands-is ∙ held_nothing _ _ _ (stood_nothing _ (sym c.stands_on-2.ensures ∙ w.in_default-stands_on.is))
+    ] in
     let planned : c.normal_plan.result ≡ normal_plan c.args.from c.args.to c.args.promote (cell_at c.args.p.board c.args.from) (cell_at c.args.p.board c.args.to) (held c.args.p.side (cell_at c.args.p.board c.args.to) c.args.p.hands) = rw (← hands-are, ← piece.0, ← c.cell-target.ensures) c.normal_plan.ensures in
     let k = can in plan-moves _ _ _ _ planned (normal-number _ _ _ _ _ _) (normal-fits c.args.p size c.requires.whole _ _ _ _ _ _ k) (rule_passes _ _ c.requires _ (sym number ∙ c.if-number-ne0.false) (normal_plays c.args.p size.board _ _ _ _ k.start k.goal (moves_apart _ _ _ _ k) ∙ normal_carried c.args.p size c.requires.whole _ _ _ k))

@@ -1,4 +1,3 @@
-use native.Mathlib.Omega.{arith}
 use Rattle.position.specs.Plans.{Ready}
 use Rattle.position.proofs.Ladder.{told_refuses, told_passes, told_clear}
 use Rattle.position.proofs.Playing.{plan_refuses}

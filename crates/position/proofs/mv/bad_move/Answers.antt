@@ -1,4 +1,3 @@
-use native.Mathlib.Omega.{arith}
 use Rattle.position.specs.Moves.{bad_move}
 use Rattle.position.proofs.mv.bad_move.Goals as goal
 

@@ -1,4 +1,3 @@
-use native.Mathlib.Omega.{arith}
 use mathlib.Core.Path.{sym, ap, ◌∙◌}
 use Rattle.squares.specs.Answers.{pop_given}
 use Rattle.position.proofs.Editing.{popped_first, popped_none}

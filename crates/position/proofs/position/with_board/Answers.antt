@@ -1,5 +1,4 @@
 use mathlib.Core.Path.{ap, ◌∙◌}
-use native.Mathlib.Omega.{arith}
 use Rattle.squares.specs.Sets.{smallest}
 use Rattle.position.proofs.Editing.{made_full}
 use Rattle.position.proofs.position.with_board.Goals as goal

@@ -1,4 +1,3 @@
-use borrow.Author.Tests.{not-true, not-false}
 use Rattle.position.proofs.Tidiness.{tidy_bad, tidy-players, tidy-kinds, players-clean, kinds-clean}
 use Rattle.position.proofs.tidy.is_tidy.Goals as goal
 

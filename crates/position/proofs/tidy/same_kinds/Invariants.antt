@@ -1,11 +1,7 @@
 use Prim.Native.Nat.{ℕ, ◌-◌, ◌≤◌, ◌<◌}
-use mathlib.Core.Path.{◌≡◌, sym, ◌∙◌}
-use borrow.Author.Tests.{not-true, not-false}
-use native.Mathlib.Omega.{arith}
-use borrow.Author.Count.{below_more}
-use lib.ListN.{length, get_or, length-map}
+use mathlib.Core.Path.{◌≡◌}
+use lib.ListN.{get_or}
 use Rattle.squares.specs.Sets.{empty_s}
-use Rattle.position.proofs.Agree.{compared_all, compared_at, equal_at}
 use Rattle.position.proofs.tidy.same_kinds.Given as goal
 
 abbrev pub invariant-loop-j : goal.invariant-loop-j

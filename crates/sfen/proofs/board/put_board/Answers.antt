@@ -1,8 +1,7 @@
-use Prim.Native.Nat.{ℕ, ◌+◌, ◌-◌, ◌≤◌}
+use Prim.Native.Nat.{ℕ, ◌+◌}
 use mathlib.Core.List.{List, [], ◌∷◌, ◌++◌}
 use native.Mathlib.Omega.{arith}
 use lib.Dec.{lit≤}
-use borrow.Author.Rules.{rules}
 use Rattle.sfen.specs.Text.{rank_text, rank_cells}
 use Rattle.sfen.specs.Inner.{Room, Owes}
 use Rattle.sfen.proofs.Lines.{puts_append, room_first, room_next, owes_all, owes_less, owes_none, owes_room}

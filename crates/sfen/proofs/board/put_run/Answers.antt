@@ -1,6 +1,5 @@
 use Rattle.sfen.proofs.Lines.{puts_none}
 use Rattle.sfen.proofs.Cases.{run_none, run-some}
-use borrow.Author.Rules.{rules}
 use Rattle.sfen.proofs.board.put_run.Goals as goal
 
 pub returns-then-empty-eq0 : goal.returns-then-empty-eq0

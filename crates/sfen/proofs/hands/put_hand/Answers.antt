@@ -1,9 +1,8 @@
-use Prim.Native.Nat.{ℕ, ◌+◌, ◌-◌, ◌*◌, ◌≤◌}
+use Prim.Native.Nat.{ℕ, ◌+◌, ◌-◌, ◌*◌}
 use mathlib.Core.List.{List, ◌++◌}
 use native.Mathlib.Omega.{arith}
 use lib.Dec.{lit≤}
 use lib.ListN.{get_or}
-use borrow.Author.Rules.{rules}
 use Rattle.position.specs.Answers.{hand_at}
 use Rattle.sfen.specs.Text.{shogi, letter_of, count_text, hand_text}
 use Rattle.sfen.specs.Inner.{Owes}

@@ -3,7 +3,6 @@ use native.Mathlib.Omega.{arith}
 use Rattle.squares.specs.Answers.{number_given}
 use Rattle.squares.specs.Kinds.{kind_row}
 use Rattle.squares.proofs.Laws.{letter-value, letter-small}
-use borrow.Author.Rules.{rules}
 use Rattle.sfen.proofs.letters.capital.Goals as goal
 
 pub returns-in-Number : goal.returns-in-Number

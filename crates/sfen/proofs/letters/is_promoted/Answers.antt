@@ -4,7 +4,6 @@ use mathlib.Core.Bool.{not}
 use lib.Dec.{eqb}
 use Rattle.squares.specs.Answers.{number_given}
 use Rattle.squares.proofs.Laws.{unpromoted-value}
-use borrow.Author.Rules.{rules}
 use Rattle.sfen.proofs.letters.is_promoted.Goals as goal
 
 pub returns-in-Number : goal.returns-in-Number

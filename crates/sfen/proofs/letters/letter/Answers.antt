@@ -1,5 +1,4 @@
 use Rattle.sfen.proofs.Cases.{letter_black, letter_white}
-use borrow.Author.Rules.{rules}
 use Rattle.sfen.proofs.letters.letter.Goals as goal
 
 pub returns-then-color-eq1 : goal.returns-then-color-eq1

@@ -1,6 +1,5 @@
 use mathlib.Core.Path.{◌≡◌, sym, ◌∙◌}
 use mathlib.Core.List.{[], ◌∷◌}
-use borrow.Author.Rules.{rules}
 use Rattle.sfen.specs.Text.{letter_of, kind_text}
 use Rattle.sfen.proofs.Lines.{puts_append, room_first, room_next}
 use Rattle.sfen.proofs.Cases.{kind_raised, kind_plain}

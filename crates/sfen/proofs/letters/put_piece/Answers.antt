@@ -1,5 +1,4 @@
 use Rattle.sfen.proofs.Cases.{piece_black, piece_white}
-use borrow.Author.Rules.{rules}
 use Rattle.sfen.proofs.letters.put_piece.Goals as goal
 
 pub put_kind-requires : goal.put_kind-requires

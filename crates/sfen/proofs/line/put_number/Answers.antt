@@ -2,7 +2,6 @@ use Prim.Native.Nat.{ℕ, ◌+◌, ◌%◌}
 use mathlib.Core.List.{List, [], ◌∷◌, ◌++◌}
 use native.Mathlib.Omega.{arith}
 use lib.Dec.{lit≤}
-use borrow.Author.Rules.{rules}
 use Rattle.sfen.specs.Inner.{Room, place}
 use Rattle.sfen.proofs.Lines.{puts_append, room_first, room_next}
 use Rattle.sfen.proofs.Cases.{number_places}

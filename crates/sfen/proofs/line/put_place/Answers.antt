@@ -1,6 +1,5 @@
 use Rattle.sfen.proofs.Lines.{puts_none}
 use Rattle.sfen.proofs.Cases.{place_none, place-some}
-use borrow.Author.Rules.{rules}
 use Rattle.sfen.proofs.line.put_place.Goals as goal
 
 pub returns-then-n-unit : goal.returns-then-n-unit

@@ -1,10 +1,7 @@
 use Prim.Native.Nat.{◌-◌, ◌≤◌}
-use mathlib.Core.Path.{◌≡◌, refl, ◌∙◌}
+use mathlib.Core.Path.{◌≡◌}
 use mathlib.Core.List.{◌++◌}
-use native.Mathlib.Omega.{arith}
-use lib.ListN.{length, take, drop, length-set}
-use borrow.Author.Rules.{rules}
-use Rattle.sfen.proofs.Lines.{front_more}
+use lib.ListN.{length, take, drop}
 use Rattle.sfen.proofs.write.copy_front.Given as goal
 
 abbrev pub invariant-loop-i : goal.invariant-loop-i

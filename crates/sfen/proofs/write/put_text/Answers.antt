@@ -1,6 +1,5 @@
 use Prim.Native.Nat.{ℕ}
 use mathlib.Core.List.{List, [], ◌∷◌, ◌++◌}
-use borrow.Author.Rules.{rules}
 use Rattle.sfen.specs.Text.{shogi, board_text, side_byte, hands_text, number_text}
 use Rattle.sfen.specs.Inner.{Room}
 use Rattle.sfen.proofs.Lines.{puts_append, room_first, room_next}

@@ -3,7 +3,6 @@ use mathlib.Core.Path.{◌≡◌, refl}
 use mathlib.Core.Bool.{true}
 use native.Mathlib.Omega.{arith}
 use lib.ListN.{length, take}
-use borrow.Author.Rules.{rules}
 use Rattle.position.specs.Sound.{sound}
 use Rattle.position.proofs.Laws.{Sized, sized}
 use Rattle.sfen.specs.Text.{position_text}
@@ -38,5 +37,5 @@ returns c =
     let passes : sound c.args.position ≡ true = sound_passes _ _ c.soundness-told.ensures c.if-told-ne0.false in
     let len : c.put_text-whole.result ≡ length (position_text c.args.position) = omega (arith, c.put_text-whole.ensures.len) in
     let front : take c.put_text-whole.result c.put_text-whole.new.line ≡ position_text c.args.position = c.put_text-whole.ensures.bytes in
-    written c.args.position c.args.out.now passes c.verdict-answer.result c.put_text-whole.result c.put_text-whole.new.line c.copy_front.new.out.1.0 len front
+    written c.args.position c.args.out.now passes c.verdict-answer.result c.put_text-whole.result c.put_text-whole.new.line c.copy_front.new.out len front
     c.verdict-answer.ensures c.copy_front.ensures

@@ -1,4 +1,3 @@
-use native.Mathlib.Omega.{arith}
 use Rattle.position.specs.Moves.{numbers_of}
 use Rattle.position.proofs.mv.MoveNumbers.of.Goals as goal
 

@@ -1,7 +1,6 @@
 use mathlib.Core.Path.{◌≡◌, ap, ◌∙◌}
 use mathlib.Core.Bool.{Bool, not, ◌&&◌}
 use Prim.Native.Nat.{◌≤◌}
-use native.Mathlib.Omega.{arith}
 use Rattle.squares.specs.Kinds.{good_colour}
 use Rattle.position.specs.Answers.{told_query, good_hand_kind}
 use Rattle.position.proofs.Asking.{hand-refused, hand_done, hand-numbers}

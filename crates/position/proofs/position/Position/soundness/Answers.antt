@@ -1,6 +1,5 @@
 use mathlib.Core.Path.{◌≡◌, sym, ap, ◌∙◌}
 use mathlib.Core.Bool.{not}
-use borrow.Author.Tests.{not-true, not-false}
 use Rattle.position.specs.Sound.{first_fault}
 use Rattle.position.proofs.Sizes.{sized}
 use Rattle.position.proofs.Tidiness.{tidy-fault, tidy-sound, told_sound, told_unsound, untidy_unsound}
