@@ -5,6 +5,7 @@ use crate::game::{PLAY, RESET, WAIT, after, is_game, obey, played, say_stop, sta
 use crate::lamps::{lamp, lamps};
 use crate::line::{Line, Word, place_in};
 use crate::notation::{MALFORMED, byte, cell, color, count, kind, ply, square};
+use crate::out::Out;
 use crate::text::{
     BYE, FORMS, NO_PLAYER, NOTHING_THERE, READY, USI_NAMES, form_of, reason, say_line, say_lines,
     say_text,
@@ -77,41 +78,38 @@ const D: u8 = 18;
 // What is no name.
 pub const NONE: u8 = 0;
 
-// The position, the line that is being read, and whether to read on.
+// The position, the line that is being read, and where the answers go: no more is read once that is closed.
 #[derive(Drop)]
 pub struct State {
     pub position: Position,
     pub line: Line,
-    pub more: bool,
+    pub out: Out,
 }
 
 impl State {
     // Before the first byte of a line.
-    pub fn before(position: Position, more: bool) -> Self {
-        Self {
-            position,
-            line: Line::empty(),
-            more,
-        }
+    pub fn before(position: Position, out: Out) -> Self {
+        Self::within(position, Line::empty(), out)
     }
 
-    pub fn within(position: Position, line: Line) -> Self {
+    pub fn within(position: Position, line: Line, out: Out) -> Self {
         Self {
             position,
             line,
-            more: true,
+            out,
         }
     }
 }
 
 // Obeys the word that ends here, if there is one, or keeps its number.
-pub fn end_word(p: Position, line: Line) -> State {
+pub fn end_word(state: State) -> State {
+    let line = state.line;
     let word = line.word;
     let next = next(line, word);
-    let answer = obey(p, word, next.order);
+    let answer = obey(state.position, word, next.order);
     let told = answer.told;
     let position = answer.position;
-    State::within(position, after(next, word, told.number))
+    State::within(position, after(next, word, told.number), state.out)
 }
 
 // The line with what the word orders.
@@ -196,22 +194,25 @@ pub fn end_line(state: State) -> State {
     let answer = change(command, state.position, line);
     let told = answer.told;
     let position = answer.position;
-    State::before(position, said(position, line, fault, told.number))
+    State::before(
+        position,
+        said(state.out, position, line, fault, told.number),
+    )
 }
 
 // Says what there is to say of a line; an empty one asks for nothing.
-fn said(p: Position, line: Line, fault: u8, number: u8) -> bool {
+fn said(out: Out, p: Position, line: Line, fault: u8, number: u8) -> Out {
     let command = line.command;
     if line.count == 0 {
-        return true;
+        return out;
     }
     if fault != 0 {
-        return say_stop(say_line(fault), line);
+        return say_stop(say_line(out, fault), line);
     }
     if SFEN <= command {
-        return tell(command, p, line.first);
+        return tell(out, command, p, line.first);
     }
-    say_line(reason(number, command, byte(line.second)))
+    say_line(out, reason(number, command, byte(line.second)))
 }
 
 // The line that says why a word was refused or that the words are too few, or 0.
@@ -228,18 +229,18 @@ fn fault_of(refused: u8, count: usize, command: u8) -> u8 {
     refused
 }
 
-// The commands that only look, the lines of USI, and the one that ends the program: whether to read on.
-fn tell(command: u8, p: Position, number: u32) -> bool {
+// The commands that only look, the lines of USI, and the one that ends the program.
+fn tell(out: Out, command: u8, p: Position, number: u32) -> Out {
     match command {
-        SFEN => say_text(true, p),
-        SHOW => show(p),
-        LAMPS => lamps(p, number),
-        NUMBERS => say_lines(true, 0, FORMS),
-        HELP => say_lines(true, FORMS + 1, NOTHING_THERE - FORMS - 1),
-        QUIT => say_line(BYE) && false,
-        USI => say_lines(true, USI_NAMES, 3),
-        IS_READY => say_line(READY),
-        GO => say_line(NO_PLAYER),
-        _ => true,
+        SFEN => say_text(out, p),
+        SHOW => show(out, p),
+        LAMPS => lamps(out, p, number),
+        NUMBERS => say_lines(out, 0, FORMS),
+        HELP => say_lines(out, FORMS + 1, NOTHING_THERE - FORMS - 1),
+        QUIT => say_line(out, BYE).closed(),
+        USI => say_lines(out, USI_NAMES, 3),
+        IS_READY => say_line(out, READY),
+        GO => say_line(out, NO_PLAYER),
+        _ => out,
     }
 }

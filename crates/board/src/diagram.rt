@@ -1,7 +1,7 @@
 // The board as a person sees it: files 9 to 1 above, ranks a to i at the side. A place is three bytes wide: + or a space,
 // the letter, and * or a space.
 use crate::notation::{or_zero, small};
-use crate::out::{say, say_byte, say_number};
+use crate::out::{Out, say, say_byte, say_number};
 use crate::text::{say_part, text_of};
 use position::{LastMove, Move, Position};
 use squares::{Bitboard, Color, Piece, PieceKind, TruthAnswer};
@@ -46,16 +46,16 @@ fn put(grid: Grid, place: usize, part: usize, b: u8) -> Grid {
     grid
 }
 
-pub fn show(p: Position) -> bool {
+pub fn show(out: Out, p: Position) -> Out {
     let answer = p.last_move();
     let last = answer.last;
     let text = text_of(p);
     let grid = marked(drawing(&text), last);
-    let open = say(true, &grid);
-    let open = hand(open, p, Color::BLACK);
-    let open = hand(open, p, Color::WHITE);
-    let open = turn(open, p.side, p.ply);
-    say_part(say_last(open, last), &text, 0, 1)
+    let out = say(out, &grid);
+    let out = hand(out, p, Color::BLACK);
+    let out = hand(out, p, Color::WHITE);
+    let out = turn(out, p.side, p.ply);
+    say_part(say_last(out, last), &text, 0, 1)
 }
 
 // The pieces of a position's text, which stand before its first space.
@@ -111,28 +111,28 @@ fn mark(grid: Grid, square: u8) -> Grid {
 }
 
 // What a colour holds, in the order of the text of a position.
-fn hand(open: bool, p: Position, color: u8) -> bool {
-    let mut open = say(say_color(open, color), b" holds");
+fn hand(out: Out, p: Position, color: u8) -> Out {
+    let mut out = say(say_color(out, color), b" holds");
     let mut none = true;
     for i in 0..7u8 {
         let answer = p.hand(color, 7 - i);
         let count = answer.value;
         if count != 0 {
             none = false;
-            open = held(open, count, letter(color, 7 - i));
+            out = held(out, count, letter(color, 7 - i));
         }
     }
     if none {
-        open = say(open, b" nothing");
+        out = say(out, b" nothing");
     }
-    say(open, b"\n")
+    say(out, b"\n")
 }
 
-fn say_color(open: bool, color: u8) -> bool {
+fn say_color(out: Out, color: u8) -> Out {
     if color == Color::BLACK {
-        say(open, b"Black")
+        say(out, b"Black")
     } else {
-        say(open, b"White")
+        say(out, b"White")
     }
 }
 
@@ -146,58 +146,58 @@ fn letter(color: u8, kind: u8) -> u8 {
     }
 }
 
-fn held(open: bool, count: u8, letter: u8) -> bool {
-    let mut open = say(open, b" ");
+fn held(out: Out, count: u8, letter: u8) -> Out {
+    let mut out = say(out, b" ");
     if 1 < count {
-        open = say_number(open, count as u64);
+        out = say_number(out, count as u64);
     }
-    say_byte(open, letter)
+    say_byte(out, letter)
 }
 
-fn turn(open: bool, side: u8, ply: u16) -> bool {
-    let open = say(say_color(open, side), b" to move, ply ");
-    say(say_number(open, ply as u64), b"\n")
+fn turn(out: Out, side: u8, ply: u16) -> Out {
+    let out = say(say_color(out, side), b" to move, ply ");
+    say(say_number(out, ply as u64), b"\n")
 }
 
 // The last move in the notation in which it is typed.
-fn say_last(open: bool, last: LastMove) -> bool {
+fn say_last(out: Out, last: LastMove) -> Out {
     let LastMove::Was(m) = last else {
-        return say(open, b"No last move\n");
+        return say(out, b"No last move\n");
     };
-    let open = say_move(say(open, b"Last move "), m);
-    say(open, b", marked *\n")
+    let out = say_move(say(out, b"Last move "), m);
+    say(out, b", marked *\n")
 }
 
-fn say_move(open: bool, m: Move) -> bool {
+fn say_move(out: Out, m: Move) -> Out {
     match m {
         Move::Normal { from, to, promote } => {
-            let open = say_square(say_square(open, from), to);
-            if promote { say(open, b"+") } else { open }
+            let out = say_square(say_square(out, from), to);
+            if promote { say(out, b"+") } else { out }
         }
         Move::Drop { piece, to } => {
             let capital = letter(Color::BLACK, or_zero(Piece::kind(piece)));
-            say_square(say(say_byte(open, capital), b"*"), to)
+            say_square(say(say_byte(out, capital), b"*"), to)
         }
     }
 }
 
-fn say_square(open: bool, square: u8) -> bool {
+fn say_square(out: Out, square: u8) -> Out {
     match square {
         1..=81 => {
             let i = square - 1;
             let letters = [b'1' + i / 9, b'a' + i % 9];
-            say(open, &letters)
+            say(out, &letters)
         }
-        _ => open,
+        _ => out,
     }
 }
 
 // A set of squares as lamps: o where one is lit.
-pub fn show_lamps(set: Bitboard) -> bool {
+pub fn show_lamps(out: Out, set: Bitboard) -> Out {
     let grid = lamps(set);
-    let open = say(true, &grid);
-    let open = say_number(open, set.count() as u64);
-    say(open, b" lit\n")
+    let out = say(out, &grid);
+    let out = say_number(out, set.count() as u64);
+    say(out, b" lit\n")
 }
 
 fn lamps(set: Bitboard) -> Grid {

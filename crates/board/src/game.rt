@@ -3,7 +3,7 @@ use crate::changes::answer;
 use crate::commands::{MOVE, NONE, POSITION, STARTPOS};
 use crate::line::{Line, Word, place_in};
 use crate::notation::{MaybeMove, begins_a_move, read_move};
-use crate::out::{say, say_number};
+use crate::out::{Out, say, say_number};
 use crate::text::{AS_IT_WAS, AT_START, BEFORE_IT, FORMS, UNREAD, form_of, reason, say_lines};
 use position::{Answer, Position};
 
@@ -101,23 +101,22 @@ pub fn start(line: Line, word: Word) -> Line {
 }
 
 // Says of several moves, and of any from the start, which was refused and where the board is now; an unknown command is none.
-pub fn say_stop(open: bool, line: Line) -> bool {
+pub fn say_stop(out: Out, line: Line) -> Out {
     let word = line.word;
     let letters = word.letters;
     let several = 1 < line.count || line.followed && line.refused != FORMS;
     let told = line.command == STARTPOS || several && is_game(line.command);
     if !told {
-        return open;
+        return out;
     }
-    let open = say_number(say(open, b"stopped at move "), line.count as u64);
-    let open = say_word(say(open, b", "), &letters, word.length);
-    say_lines(open, place_of_stop(line.command, line.count), 1)
+    let out = say_number(say(out, b"stopped at move "), line.count as u64);
+    let out = say_word(say(out, b", "), &letters, word.length);
+    say_lines(out, place_of_stop(line.command, line.count), 1)
 }
 
-// A word has at most twelve letters: `io::count` leaves the length as it is, and promises that there are so many.
-fn say_word(open: bool, letters: &[u8], length: usize) -> bool {
-    let n = io::count((length % 16) as isize, letters);
-    say(open, &letters[..n])
+fn say_word(out: Out, letters: &[u8], length: usize) -> Out {
+    let n = length.min(letters.len());
+    say(out, &letters[..n])
 }
 
 // The line that says where the board is after moves that stopped at the one so counted.

@@ -4,7 +4,7 @@
 const ROOM: usize = 12;
 
 // The first letters of a word, with newlines behind them, and how many they are.
-#[derive(Drop)]
+#[derive(Clone, Copy)]
 pub struct Word {
     pub length: usize,
     pub letters: [u8; ROOM],
@@ -35,7 +35,7 @@ impl Word {
 // The command; how many words were taken, itself among them; the numbers of the first three behind it; the word that is being
 // read, and what it orders. Once a word is refused it stays there, with the line to say, and only whether something follows is
 // noted.
-#[derive(Drop)]
+#[derive(Clone, Copy)]
 pub struct Line {
     pub command: u8,
     pub count: usize,

@@ -7,7 +7,7 @@ use squares::{Color, FormAnswer, NumberAnswer, Piece, PieceKind, Square};
 // For a word that is not of the form; some have a larger number.
 pub const MALFORMED: u32 = 65536;
 
-#[derive(Drop)]
+#[derive(Clone, Copy)]
 pub enum MaybeMove {
     Given(Move),
     Malformed,

@@ -1,23 +1,60 @@
-// What is said, on standard output. Each piece is written at once: whoever types a command sees its answer. Every call tells
+// What is said, on standard output. Each piece is written at once: whoever types a command sees its answer. Every call hands back
 // whether all was written, and is told whether what came before was: after a write that failed, which is said once, nothing more
 // is.
-pub fn say(open: bool, text: &[u8]) -> bool {
-    open && noted(io::write_all(1, text))
+use std::fmt::Display;
+use std::io;
+
+// Where words go, and whether it is open: it is closed by a write that failed, and where the program is to end.
+#[derive(Clone, Copy)]
+pub struct Out {
+    rt: HostRuntime,
+    open: bool,
 }
 
-pub fn say_byte(open: bool, b: u8) -> bool {
-    let one = [b];
-    say(open, &one)
-}
-
-pub fn say_number(open: bool, n: u64) -> bool {
-    open && noted(io::print_decimal(1, n))
-}
-
-// A program ends with 0 whatever it does: a line on standard error says that it failed.
-fn noted(written: bool) -> bool {
-    if !written {
-        io::write_all(2, b"board: writing failed\n");
+impl Out {
+    pub fn new(rt: HostRuntime) -> Self {
+        Self { rt, open: true }
     }
-    written
+
+    pub fn is_open(self) -> bool {
+        self.open
+    }
+
+    pub fn closed(self) -> Self {
+        Self {
+            rt: self.rt,
+            open: false,
+        }
+    }
+
+    // A program ends with 0 whatever it does: a line on standard error says that it failed.
+    pub fn failed(self, what: &str) -> Self {
+        let _ = self.rt.eprintln(what);
+        self.closed()
+    }
+
+    fn after(self, written: io::Result<()>) -> Self {
+        match written {
+            Ok(()) => self,
+            Err(_) => self.failed("board: writing failed"),
+        }
+    }
+}
+
+pub fn say(out: Out, text: &[u8]) -> Out {
+    if out.open {
+        return out.after(out.rt.write_all(text));
+    }
+    out
+}
+
+pub fn say_byte(out: Out, b: u8) -> Out {
+    say(out, &[b])
+}
+
+pub fn say_number(out: Out, n: u64) -> Out {
+    if out.open {
+        return out.after(out.rt.print(n));
+    }
+    out
 }

@@ -3,7 +3,7 @@
 ghost use Rattle.std.specs.Prelude.{◌≤◌, length};
 
 use crate::commands::{HAND, PLY, PUT};
-use crate::out::say;
+use crate::out::{Out, say};
 use position::Position;
 use sfen::write_sfen;
 
@@ -123,16 +123,16 @@ pub fn reason(number: u8, command: u8, cell: u8) -> u8 {
 }
 
 // Says one line; of a command, that its form is expected.
-pub fn say_line(line: u8) -> bool {
+pub fn say_line(out: Out, line: u8) -> Out {
     if FORMS < line && line < NOTHING_THERE {
-        return say_lines(say(true, b"expected: "), line, 1);
+        return say_lines(say(out, b"expected: "), line, 1);
     }
-    say_lines(true, line, 1)
+    say_lines(out, line, 1)
 }
 
 // Says so many lines, from one on.
-pub fn say_lines(open: bool, first: u8, count: u8) -> bool {
-    say_part(open, &TEXT, first as usize, count as usize)
+pub fn say_lines(out: Out, first: u8, count: u8) -> Out {
+    say_part(out, &TEXT, first as usize, count as usize)
 }
 
 // The position's text, with newlines behind it.
@@ -143,16 +143,16 @@ pub fn text_of(p: Position) -> [u8; 168] {
 }
 
 // The same as a line of its own.
-pub fn say_text(open: bool, p: Position) -> bool {
+pub fn say_text(out: Out, p: Position) -> Out {
     let text = text_of(p);
-    say_part(open, &text, 0, 1)
+    say_part(out, &text, 0, 1)
 }
 
 // So many lines of a text, from one on.
-pub fn say_part(open: bool, text: &[u8], first: usize, count: usize) -> bool {
+pub fn say_part(out: Out, text: &[u8], first: usize, count: usize) -> Out {
     let from = after(text, 0, first);
     let to = after(text, from, count);
-    say(open, &text[from..to])
+    say(out, &text[from..to])
 }
 
 // Where a text goes on, from some place on, after so many newlines.

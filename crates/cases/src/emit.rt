@@ -1,4 +1,6 @@
 // Answers as text. The text is gathered in an array, which is written out when it is full and before each read.
+ghost use Rattle.std.specs.Prelude.{◌<◌};
+
 use crate::numbers::{MALFORMED, Numbers, read_u64};
 
 pub const ROOM: usize = 65536;
@@ -7,15 +9,17 @@ pub type Bytes = [u8; ROOM];
 
 // How many bytes are gathered, and whether every write succeeded. After one that failed nothing more is written, so
 // that what came out is a beginning of the answers and lacks none in the middle.
-#[derive(Drop)]
+#[derive(Clone, Copy)]
 pub struct Gathered {
+    rt: HostRuntime,
     used: usize,
     pub open: bool,
 }
 
 impl Gathered {
-    pub fn new() -> Self {
+    pub fn new(rt: HostRuntime) -> Self {
         Self {
+            rt,
             used: 0,
             open: true,
         }
@@ -37,16 +41,14 @@ impl Gathered {
     }
 
     fn put_number(self, out: &mut Bytes, n: u64) -> Self {
-        let mut text = [0u8; 20];
-        let digits = io::decimal(n, &mut text);
-        self.put_bytes(out, &text[..digits])
+        let text = digits(n);
+        self.put_bytes(out, &text[leading_zeros(&text)..])
     }
 
     fn put_bytes(self, out: &mut Bytes, bytes: &[u8]) -> Self {
         let mut gathered = self;
-        let n = bytes.len();
-        for i in 0..n {
-            gathered = gathered.put_byte(out, bytes[i]);
+        for b in bytes {
+            gathered = gathered.put_byte(out, *b);
         }
         gathered
     }
@@ -55,43 +57,59 @@ impl Gathered {
         let used = self.used;
         if used < ROOM {
             out[used] = b;
-            return Self {
-                used: used + 1,
-                open: self.open,
-            };
+            return self.with(used + 1, self.open);
         }
         let rest = self.flush(out);
         out[0] = b;
-        Self {
-            used: 1,
-            open: rest.open,
-        }
+        self.with(1, rest.open)
     }
 
     // Writes out what is gathered.
     pub fn flush(self, out: &Bytes) -> Self {
+        let n = self.used.min(ROOM);
+        let all: &[u8] = out;
+        self.with(0, self.open && self.write(&all[..n]))
+    }
+
+    fn with(self, used: usize, open: bool) -> Self {
         Self {
-            used: 0,
-            open: self.open && write_first(out, self.used),
+            rt: self.rt,
+            used,
+            open,
+        }
+    }
+
+    // Whether all was written. A program ends with 0 whatever it does: a line on standard error says that it failed.
+    fn write(self, bytes: &[u8]) -> bool {
+        match self.rt.write_all(bytes) {
+            Ok(()) => true,
+            Err(_) => {
+                let _ = self.rt.eprintln("cases: writing failed");
+                false
+            }
         }
     }
 }
 
-// Writes the first n bytes, and says whether that succeeded. `io::count` leaves n as it is, and promises that the array
-// has so many.
-fn write_first(out: &Bytes, n: usize) -> bool {
-    if ROOM <= n {
-        return noted(io::write_all(1, out));
+// The twenty digits of a number, as text.
+fn digits(n: u64) -> [u8; 20] {
+    let mut text = [0u8; 20];
+    let mut rest = n;
+    for i in 0..20usize {
+        text[19 - i] = b'0' + (rest % 10) as u8;
+        rest /= 10;
     }
-    let n = io::count(n as isize, out);
-    let all: &[u8] = out;
-    noted(io::write_all(1, &all[..n]))
+    text
 }
 
-// A program ends with 0 whatever it does: a line on standard error says that it failed.
-fn noted(written: bool) -> bool {
-    if !written {
-        io::write_all(2, b"cases: writing failed\n");
+// How many zeros stand before the number; a last one is the number.
+fn leading_zeros(text: &[u8; 20]) -> usize
+    ensures { result < 20 }
+{
+    for i in 0..19usize {
+        if text[i] != b'0' {
+            return i;
+        }
     }
-    written
+    19
 }

@@ -1,4 +1,6 @@
 // Reads case lines on standard input, and writes an answer line for each on standard output.
+#![tactic(auto)]
+
 mod change_ops;
 mod emit;
 mod number_ops;
@@ -14,6 +16,7 @@ mod text_ops;
 use emit::{Bytes, Gathered, ROOM};
 use numbers::{MOST, Numbers};
 use scan::Line;
+use std::io::Read;
 
 // The line that is being read, the answers that are not written yet, and whether to read on.
 #[derive(Drop)]
@@ -37,46 +40,47 @@ impl State {
     }
 }
 
-// Nothing says that the input ends, so the loop counts its turns, from a number that no run uses up.
-fn main() {
+// Nothing says that the input ends, so the turns are counted, up to a number that no run uses up.
+fn main(rt: HostRuntime) {
     let mut nums = [0u64; MOST];
     let mut ans = [0u64; MOST];
     let mut out = [0u8; ROOM];
     let mut state = State {
         line: Line::new(),
-        gathered: Gathered::new(),
+        gathered: Gathered::new(rt),
         more: true,
     };
-    let mut turns = u64::MAX;
-    while turns > 0 && state.more {
-        turns -= 1;
-        state = turn(state, &mut nums, &mut ans, &mut out);
+    for _ in 0..u64::MAX {
+        if !state.more {
+            return;
+        }
+        state = turn(state, rt, &mut nums, &mut ans, &mut out);
     }
 }
 
 // One read, and the answers to the lines that end in it. They are written at once: whoever sends a line and waits is
 // answered.
-fn turn(state: State, nums: &mut Numbers, ans: &mut Numbers, out: &mut Bytes) -> State {
+fn turn(
+    state: State,
+    rt: HostRuntime,
+    nums: &mut Numbers,
+    ans: &mut Numbers,
+    out: &mut Bytes,
+) -> State {
     let mut input = [0u8; ROOM];
-    let got = libc::read(0, &mut input);
-    if got < 0 {
-        return unread(state);
+    match rt.stdin().read(&mut input) {
+        Ok(0) => finish(state, nums, ans, out).written(out, false),
+        Ok(n) => take_all(state, &input[..n], nums, ans, out).written(out, true),
+        Err(_) => unread(state, rt),
     }
-    let n = io::count(got, &input);
-    if n == 0 {
-        return finish(state, nums, ans, out).written(out, false);
-    }
-    take_all(state, &input[..n], nums, ans, out).written(out, true)
 }
 
 // After a read that failed: what was read of a line is no line, and all answers are written.
-fn unread(state: State) -> State {
-    let line = state.line;
-    let gathered = state.gathered;
-    io::write_all(2, b"cases: reading failed\n");
+fn unread(state: State, rt: HostRuntime) -> State {
+    let _ = rt.eprintln("cases: reading failed");
     State {
-        line,
-        gathered,
+        line: state.line,
+        gathered: state.gathered,
         more: false,
     }
 }
@@ -98,9 +102,8 @@ fn take_all(
     out: &mut Bytes,
 ) -> State {
     let mut state = state;
-    let n = bytes.len();
-    for i in 0..n {
-        state = take(state, bytes[i], nums, ans, out);
+    for b in bytes {
+        state = take(state, *b, nums, ans, out);
     }
     state
 }

@@ -13,7 +13,7 @@ pub fn answer(op: u64, args: Args) -> Few {
 }
 
 // What a call told: its answer number, and its value, which is 0 where there is none.
-#[derive(Drop)]
+#[derive(Clone, Copy)]
 struct Told {
     number: u64,
     value: u64,

@@ -23,19 +23,14 @@ pub fn put(nums: &mut Numbers, at: usize, x: u64) -> usize {
 // The same with each byte.
 pub fn put_bytes(nums: &mut Numbers, at: usize, bytes: &[u8]) -> usize {
     let mut at = at;
-    let n = bytes.len();
-    for i in 0..n {
-        at = put(nums, at, wide(bytes[i]));
+    for b in bytes {
+        at = put(nums, at, *b as u64);
     }
     at
 }
 
-fn wide(x: u8) -> u64 {
-    x as u64
-}
-
 // Four numbers of a line: what a call takes beside sets or a position, or a move.
-#[derive(Drop)]
+#[derive(Clone, Copy)]
 pub struct Args {
     pub a: u64,
     pub b: u64,
@@ -71,7 +66,7 @@ pub fn two_bytes(x: u64) -> u16 {
 }
 
 // An answer of up to six numbers: how many, and they themselves.
-#[derive(Drop)]
+#[derive(Clone, Copy)]
 pub struct Few {
     pub count: usize,
     pub numbers: [u64; 6],

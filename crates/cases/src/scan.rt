@@ -2,7 +2,7 @@
 use crate::numbers::{MOST, Numbers, put};
 
 // What was read last: nothing yet, a space, a digit; or the line is not of the form, whatever follows.
-#[derive(Drop)]
+#[derive(Clone, Copy)]
 enum Place {
     Start,
     Gap,
@@ -11,7 +11,7 @@ enum Place {
 }
 
 // How many numbers of the line are stored, and the value so far of the one that is being read.
-#[derive(Drop)]
+#[derive(Clone, Copy)]
 pub struct Line {
     count: usize,
     value: u64,

@@ -21,14 +21,12 @@ fn fresh() -> Buffer {
     buffer
 }
 
-// The first n bytes, where there are so many. `io::count` leaves n as it is, and promises that the buffer has so many.
+// The first n bytes, where there are so many.
 fn put_first(ans: &mut Numbers, at: usize, buffer: &Buffer, n: usize) -> usize {
     if LONGEST < n {
         return at;
     }
-    let n = io::count(n as isize, buffer);
-    let all: &[u8] = buffer;
-    put_bytes(ans, at, &all[..n])
+    put_bytes(ans, at, &buffer[..n])
 }
 
 pub fn text(p: Position, len: u64, ans: &mut Numbers) -> usize {
@@ -36,7 +34,7 @@ pub fn text(p: Position, len: u64, ans: &mut Numbers) -> usize {
         return MALFORMED;
     }
     let mut buffer = fresh();
-    let n = io::count(len as isize, &buffer);
+    let n = len as usize;
     let answer = write_sfen(p, &mut buffer[..n]);
     let told = answer.told;
     let at = put_told(ans, told);

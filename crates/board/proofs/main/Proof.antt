@@ -1,9 +1,0 @@
-use borrow.Author.Rules.{rules}
-use Rattle.board.proofs.main.Statement.{statement}
-use Rattle.board.proofs.main.Tie as tie
-
-pub main_spec : {M : Type 1} → statement M
-main_spec =
-    tie.close (tie.spec (λ _ _ _ _ _. Unit) (λ _ _ _ _ turns. turns)
-    (search rules) (search rules) (search rules) (search rules) (search rules) (search rules) (search rules)
-    (search rules) (search rules) (search rules) (search rules) (search rules) (search rules))
