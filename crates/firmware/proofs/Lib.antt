@@ -1,4 +1,3 @@
-mod Results
 mod Keeping
 mod Asked
 mod Unique

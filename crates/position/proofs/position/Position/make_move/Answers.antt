@@ -9,4 +9,4 @@ store-q-requires c = c.make_plan-plan.ensures.fits
 
 pub returns : goal.returns
 unfolding played_by
-returns c = let q = c.before.before.before in rw (c.toggle-q-3.ensures, c.toggle-q-2.ensures, c.toggle-q.ensures, q.store-q.ensures) q.make_plan-plan.ensures.does
+returns c = rw (c.toggle-q-3.ensures, c.toggle-q-2.ensures, c.toggle-q.ensures, c.store-q.ensures) c.make_plan-plan.ensures.does
