@@ -1,6 +1,6 @@
 /* What a board's firmware does: lends its position to a call, finds it changed, lights the lamps of a set of squares, sends the text.
  * Build it with any C11 compiler for x86-64:
- *     (cd crates/firmware && rt lib) && cc -std=c11 -Iinclude examples/c/play.c crates/firmware/out/libfirmware.a -o play */
+ *     (cd crates/firmware && rt lib --cpu x86-64) && cc -std=c11 -Iinclude examples/c/play.c crates/firmware/out/libfirmware.a -o play */
 #include "pulfredan.h"
 
 /* All that is used of the C library, declared here so that no other header is needed. */
