@@ -84,8 +84,8 @@ module _ (p : Position) (s : Sized p) (h : sound p ≡ true) where
   pub sound_room : (t : ℕ) → RoomFor p.hands p.side t
   sound_room t =
       record {
-        side-low = sound-side.0;
-        side-high = sound-side.1;
+        side_low = sound-side.0;
+        side_high = sound-side.1;
         few = λ d. omega (arith, few-hands _ (hand_in p.side (hand_kind (kind_of t)) sound-side.0 sound-side.1 (positive _ d) (held_small (kind_of t))));
       }
 
@@ -104,4 +104,4 @@ module _ (p : Position) (s : Sized p) (h : sound p ≡ true) where
   pub drop-held : (piece to : ℕ) → CanDrop (machine p) piece to → Holds p.hands p.side piece
   unfolding machine
   drop-held piece to k =
-      record { side-low = sound-side.0; side-high = sound-side.1; kind-low = k.kind-low; kind-high = k.kind-high; some = k.some }
+      record { side_low = sound-side.0; side_high = sound-side.1; kind_low = k.kind_low; kind_high = k.kind_high; some = k.some }

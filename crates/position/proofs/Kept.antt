@@ -105,7 +105,7 @@ module _ (m : Machine) (from to : ℕ) (promote : Bool) (g : InOrder m) (size : 
 -- ---- a drop: the square is emptied first, which it is
 module _ (m : Machine) (piece to : ℕ) (g : InOrder m) (size : length m.cells ≡ 81) (k : CanDrop m piece to) where
   no_king : (king : ℕ) → kind_of king ≡ 8 → piece ≡ king → ⊥
-  no_king king e z = let q : kind_of piece ≡ 8 = ap kind_of z ∙ e in omega (arith, k.kind-high)
+  no_king king e z = let q : kind_of piece ≡ 8 = ap kind_of z ∙ e in omega (arith, k.kind_high)
 
   twice : set (set m.cells (to - 1) 0) (to - 1) piece ≡ set m.cells (to - 1) piece
   twice = set-set m.cells (to - 1) 0 piece
@@ -123,8 +123,8 @@ module _ (m : Machine) (piece to : ℕ) (g : InOrder m) (size : length m.cells �
         ≤ (kind_row (j + 1)).limit
     drop-counts j small =
         let s = colour_range m.side g.side in
-        let t = rw (k.empty, plain_kind piece k.good (omega (arith, k.kind-high))) at (standing-store m.cells (j + 1) to piece k.goal.low k.goal.high size) in
-        let sum = spent-sum m.side piece m.hands j s.0 s.1 room small k.kind-low k.kind-high k.some in
+        let t = rw (k.empty, plain_kind piece k.good (omega (arith, k.kind_high))) at (standing-store m.cells (j + 1) to piece k.goal.low k.goal.high size) in
+        let sum = spent-sum m.side piece m.hands j s.0 s.1 room small k.kind_low k.kind_high k.some in
         omega (arith, t, sum, g.counts j small, empty-none j)
 
     pub dropped_order : InOrder (dropped m piece to)

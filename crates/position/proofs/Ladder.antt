@@ -43,8 +43,8 @@ pub record CanDrop (m : Machine) (piece to : ℕ) : Type 0 where
   pub good : good_piece piece ≡ true
   pub goal : OnBoard to
   pub own : colour_of piece ≡ m.side
-  pub kind-low : 1 ≤ kind_of piece
-  pub kind-high : kind_of piece ≤ 7
+  pub kind_low : 1 ≤ kind_of piece
+  pub kind_high : kind_of piece ≤ 7
   pub empty : cell_at m.cells to ≡ 0
   pub some : 1 ≤ get_or m.hands (hand_at m.side (kind_of piece)) 0
   pub early : m.ply ≡ top_ply → ⊥
@@ -94,8 +94,8 @@ drop_passes m piece to g h =
       good = o.0;
       goal = on_board_lem to o.1;
       own = eqb-true _ _ (not-false _ a.0);
-      kind-low = r.0;
-      kind-high = omega arith;
+      kind_low = r.0;
+      kind_high = omega arith;
       empty = eqb-true _ _ (not-false _ e.0);
       some = positive _ (eqb-false _ _ k.1);
       early = eqb-false _ _ i.0;

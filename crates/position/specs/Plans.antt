@@ -20,16 +20,16 @@ pub record Ready (p : Position) (m : Move) : Type 0 where
 
 -- what putting the piece of a cell t into a hand asks
 pub record RoomFor (hands : List ℕ) (side t : ℕ) : Type 0 where
-  pub side-low : 1 ≤ side
-  pub side-high : side ≤ 2
+  pub side_low : 1 ≤ side
+  pub side_high : side ≤ 2
   pub few : (hand_kind (kind_of t) ≡ 0 → ⊥) → get_or hands (hand_at side (hand_kind (kind_of t))) 0 < 255
 
 -- what taking a piece out of a hand asks
 pub record Holds (hands : List ℕ) (side piece : ℕ) : Type 0 where
-  pub side-low : 1 ≤ side
-  pub side-high : side ≤ 2
-  pub kind-low : 1 ≤ kind_of piece
-  pub kind-high : kind_of piece ≤ 7
+  pub side_low : 1 ≤ side
+  pub side_high : side ≤ 2
+  pub kind_low : 1 ≤ kind_of piece
+  pub kind_high : kind_of piece ≤ 7
   pub some : 1 ≤ get_or hands (hand_at side (kind_of piece)) 0
 
 -- nothing is done, for the number n

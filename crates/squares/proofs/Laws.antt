@@ -9,7 +9,7 @@ use Rattle.squares.specs.Kinds.{good_kind, kind_row, hand_kind, good_piece, prom
 use Rattle.squares.specs.declared.bitboard.Bitboard.{Bitboard}
 use Rattle.squares.specs.declared.bitboard.Direction.{Direction}
 pub use Rattle.squares.proofs.Lists.{length-tab, get_d_tab, get_d_any, is_tab, set-tab, tab-same, Filled, filled_none, filled_more, filled_all}
-pub use Rattle.squares.proofs.Steps.{both, decided, eqb_same, board_range, board_on, board-zero, board-low, board-high, side_range, side_on, side-low, side-high}
+pub use Rattle.squares.proofs.Steps.{both, decided, eqb_same, board_range, board_on, board-zero, board-low, board-high, side_range, side_on, side_low, side_high}
 pub use Rattle.squares.proofs.Steps.{file-side, rank-side, at_back, at_on, at_off, at_board, at_file, at_rank}
 pub use Rattle.squares.proofs.Steps.{step_off, step-zero, step-none, step_long, step_add, step_back, step_iff}
 pub use Rattle.squares.proofs.Members.{le-or-lt, has-set_of, set_of_cong, set_of-has, clean-set_of, clean-has, has_off, has_on, has-empty_s}
@@ -22,7 +22,7 @@ pub use Rattle.squares.proofs.Counts.{count_same, count_add, count-sum, count-ch
 pub use Rattle.squares.proofs.Least.{First, smallest_is, smallest_at, smallest-none, size_without, count_none, size_none, size-le, empty-size, empty-none, empty-some, empty-has}
 pub use Rattle.squares.proofs.Least.{Popped, pop-square, pop_nothing}
 pub use Rattle.squares.proofs.Numbers.{kind_range, colour_range, colour_good, colour_low, colour_high, cell-piece, cell-zero, piece-cell, piece_kind, piece_low_bound}
-pub use Rattle.squares.proofs.Numbers.{piece-low, piece_gap, piece-high, piece_black, piece_white, row_bad, promoted-small, letter-small, kind-good, kind-low, kind-high}
+pub use Rattle.squares.proofs.Numbers.{piece-low, piece_gap, piece-high, piece_black, piece_white, row_bad, promoted-small, letter-small, kind-good, kind_low, kind_high}
 pub use Rattle.squares.proofs.Numbers.{black_kind, white_kind, black_colour, white_colour, empty_colour, bad_cells, good-cells}
 pub use Rattle.squares.proofs.Numbers.{piece-small, piece_by, other_good, no-promoted, no-held, held_small, limit-small}
 pub use Rattle.squares.proofs.Marked.{squares, marked-sets}

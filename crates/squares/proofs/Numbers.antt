@@ -13,13 +13,13 @@ pub kind-good : (k : ℕ) → 1 ≤ k → k < 15 → good_kind k ≡ true
 unfolding good_kind
 kind-good k l h = rw (le-leb 1 k l, le-leb k 14 (omega arith))
 
-pub kind-low : (k : ℕ) → k < 1 → good_kind k ≡ false
+pub kind_low : (k : ℕ) → k < 1 → good_kind k ≡ false
 unfolding good_kind
-kind-low k h = rw (lt-leb 1 k h)
+kind_low k h = rw (lt-leb 1 k h)
 
-pub kind-high : (k : ℕ) → 15 ≤ k → good_kind k ≡ false
+pub kind_high : (k : ℕ) → 15 ≤ k → good_kind k ≡ false
 unfolding good_kind
-kind-high k h = rw (le-leb 1 k (omega arith), lt-leb k 14 h)
+kind_high k h = rw (le-leb 1 k (omega arith), lt-leb k 14 h)
 
 pub colour_good : (c : ℕ) → 1 ≤ c → c < 3 → good_colour c ≡ true
 unfolding good_colour
@@ -39,15 +39,15 @@ colour_none c f g = rw (ne_eqb c 1 f, ne_eqb c 2 g)
 
 pub piece-low : (c : ℕ) → c < 1 → good_piece c ≡ false
 unfolding good_piece kind_of
-piece-low c h = rw (le-leb c 16 (omega arith)) (kind-low c h)
+piece-low c h = rw (le-leb c 16 (omega arith)) (kind_low c h)
 
 pub piece_gap : (c : ℕ) → 15 ≤ c → c < 17 → good_piece c ≡ false
 unfolding good_piece kind_of
-piece_gap c l h = rw (le-leb c 16 (omega arith)) (kind-high c l)
+piece_gap c l h = rw (le-leb c 16 (omega arith)) (kind_high c l)
 
 pub piece-high : (c : ℕ) → 31 ≤ c → good_piece c ≡ false
 unfolding good_piece kind_of
-piece-high c h = rw (lt-leb c 16 (omega arith)) (kind-high (c - 16) (omega arith))
+piece-high c h = rw (lt-leb c 16 (omega arith)) (kind_high (c - 16) (omega arith))
 
 -- a bad piece other than 0 is a bad cell
 cell_bad : (c : ℕ) → 1 ≤ c → good_piece c ≡ false → false ≡ good_cell c
@@ -201,7 +201,7 @@ held-few k h = leb→le _ _ (all_at (λ j. leb (hand_kind j) 7) 15 tt k h)
 
 pub held_small : (k : ℕ) → hand_kind k ≤ 7
 held_small k =
-    ⊎_elim (λ (h : k ≤ 14). held-few k (omega arith)) (λ (h : 14 < k). omega (arith, no-held k (kind-high k h))) (le-or-lt k 14)
+    ⊎_elim (λ (h : k ≤ 14). held-few k (omega arith)) (λ (h : 14 < k). omega (arith, no-held k (kind_high k h))) (le-or-lt k 14)
 
 -- ---- how many of a hand kind a full set has
 pub limit-small : (j : ℕ) → j < 7 → (kind_row (j + 1)).limit ≤ 18

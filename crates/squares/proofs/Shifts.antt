@@ -11,7 +11,7 @@ use Rattle.squares.specs.declared.bitboard.Bitboard.{Bitboard}
 use Rattle.squares.specs.declared.bitboard.Direction.{Direction}
 use Rattle.squares.specs.declared.bitboard.Direction.TheVariants.{Down, Up, Left, Right}
 use Rattle.squares.proofs.Bits.{bit-and, bit-or, bit_shl64, bit_shr, bit_high, bit-of-zero}
-use Rattle.squares.proofs.Steps.{board_on, board-zero, side_on, side-low, side-high, at_on, at_off}
+use Rattle.squares.proofs.Steps.{board_on, board-zero, side_on, side_low, side_high, at_on, at_off}
 use Rattle.squares.proofs.Members.{has_lo, has_hi, has_off, has_masked, cleaned, by_words, le-or-lt}
 use Rattle.squares.proofs.Tests.{all, all_at, beq_eq}
 
@@ -51,7 +51,7 @@ module _ (d n : ℕ) (l : 1 ≤ n) (h : n ≤ 81) where
 
   step_up_off : (n - 1) % 9 < d → step 9 Up d n ≡ 0
   unfolding step file_step rank_step file_of rank_of
-  step_up_off p = rw (board_on 9 n l h) (no-rank ((n - 1) / 9 + 1) ((n - 1) % 9 + 1 - d) (omega arith) (omega arith) (side-low 9 ((n - 1) % 9 + 1 - d) (omega arith)))
+  step_up_off p = rw (board_on 9 n l h) (no-rank ((n - 1) / 9 + 1) ((n - 1) % 9 + 1 - d) (omega arith) (omega arith) (side_low 9 ((n - 1) % 9 + 1 - d) (omega arith)))
 
   step_down : (n - 1) % 9 + d < 9 → step 9 Down d n ≡ n + d
   unfolding step file_step rank_step file_of rank_of
@@ -59,7 +59,7 @@ module _ (d n : ℕ) (l : 1 ≤ n) (h : n ≤ 81) where
 
   step_down_off : 9 ≤ (n - 1) % 9 + d → step 9 Down d n ≡ 0
   unfolding step file_step rank_step file_of rank_of
-  step_down_off p = rw (board_on 9 n l h) (no-rank ((n - 1) / 9 + 1) ((n - 1) % 9 + 1 + d) (omega arith) (omega arith) (side-high 9 ((n - 1) % 9 + 1 + d) (omega arith) (omega arith)))
+  step_down_off p = rw (board_on 9 n l h) (no-rank ((n - 1) / 9 + 1) ((n - 1) % 9 + 1 + d) (omega arith) (omega arith) (side_high 9 ((n - 1) % 9 + 1 + d) (omega arith) (omega arith)))
 
   step_left : n + 9 * d ≤ 81 → step 9 Left d n ≡ n + 9 * d
   unfolding step file_step rank_step file_of rank_of
@@ -67,7 +67,7 @@ module _ (d n : ℕ) (l : 1 ≤ n) (h : n ≤ 81) where
 
   step_left_off : 81 < n + 9 * d → step 9 Left d n ≡ 0
   unfolding step file_step rank_step file_of rank_of
-  step_left_off p = rw (board_on 9 n l h) (no-file ((n - 1) / 9 + 1 + d) ((n - 1) % 9 + 1) (side-high 9 ((n - 1) / 9 + 1 + d) (omega arith) (omega arith)))
+  step_left_off p = rw (board_on 9 n l h) (no-file ((n - 1) / 9 + 1 + d) ((n - 1) % 9 + 1) (side_high 9 ((n - 1) / 9 + 1 + d) (omega arith) (omega arith)))
 
   step_right : 9 * d < n → step 9 Right d n ≡ n - 9 * d
   unfolding step file_step rank_step file_of rank_of
@@ -75,7 +75,7 @@ module _ (d n : ℕ) (l : 1 ≤ n) (h : n ≤ 81) where
 
   step_right_off : n ≤ 9 * d → step 9 Right d n ≡ 0
   unfolding step file_step rank_step file_of rank_of
-  step_right_off p = rw (board_on 9 n l h) (no-file ((n - 1) / 9 + 1 - d) ((n - 1) % 9 + 1) (side-low 9 ((n - 1) / 9 + 1 - d) (omega arith)))
+  step_right_off p = rw (board_on 9 n l h) (no-file ((n - 1) / 9 + 1 - d) ((n - 1) % 9 + 1) (side_low 9 ((n - 1) / 9 + 1 - d) (omega arith)))
 
 has-zero : (s : Bitboard) → has s 0 ≡ false
 has-zero s = has_off s 0 (board-zero 9)

@@ -39,13 +39,13 @@ pub side_on : (w k : ℕ) → 1 ≤ k → k ≤ w → on_side w k ≡ true
 unfolding on_side
 side_on w k l h = rw (le-leb 1 k l, le-leb k w h)
 
-pub side-low : (w k : ℕ) → k < 1 → on_side w k ≡ false
+pub side_low : (w k : ℕ) → k < 1 → on_side w k ≡ false
 unfolding on_side
-side-low w k h = rw (lt-leb 1 k h)
+side_low w k h = rw (lt-leb 1 k h)
 
-pub side-high : (w k : ℕ) → 1 ≤ k → w < k → on_side w k ≡ false
+pub side_high : (w k : ℕ) → 1 ≤ k → w < k → on_side w k ≡ false
 unfolding on_side
-side-high w k l h = rw (le-leb 1 k l, lt-leb k w h)
+side_high w k l h = rw (le-leb 1 k l, lt-leb k w h)
 
 pub board_range : (w n : ℕ) → on_board w n ≡ true → (1 ≤ n) × (n ≤ w * w)
 unfolding on_board
@@ -202,10 +202,10 @@ module _ (w : ℕ) where
   -- too far
   too_far : (dir : Direction) (d f r : ℕ) → w ≤ d → on_side w f ≡ true → on_side w r ≡ true → on_side w (file_step dir d f) && on_side w (rank_step dir d r) ≡ false
   unfolding file_step rank_step
-  too_far Down d f r h a b = let p = side_range w r b in rw (a, side-high w (r + d) (omega arith) (omega arith))
-  too_far Up d f r h a b = let p = side_range w r b in rw (a, side-low w (r - d) (omega arith))
-  too_far Left d f r h a b = let p = side_range w f a in rw (side-high w (f + d) (omega arith) (omega arith))
-  too_far Right d f r h a b = let p = side_range w f a in rw (side-low w (f - d) (omega arith))
+  too_far Down d f r h a b = let p = side_range w r b in rw (a, side_high w (r + d) (omega arith) (omega arith))
+  too_far Up d f r h a b = let p = side_range w r b in rw (a, side_low w (r - d) (omega arith))
+  too_far Left d f r h a b = let p = side_range w f a in rw (side_high w (f + d) (omega arith) (omega arith))
+  too_far Right d f r h a b = let p = side_range w f a in rw (side_low w (f - d) (omega arith))
 
 -- ---- steps of a square, at every side, direction and distance
 module _ (w : ℕ) (dir : Direction) where

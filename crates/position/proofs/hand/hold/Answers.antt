@@ -14,7 +14,7 @@ returns-then-kind-eq0 c = rw (← c.hand_kind-kind.ensures, eq-eqb _ 0 c.if-kind
 pub index-at-requires : goal.index-at-requires
 index-at-requires c =
     let small : c.hand_kind-kind.result ≤ 7 = rw c.hand_kind-kind.ensures (held_small _) in
-    let p = c.requires in (p.side-low, p.side-high, positive _ c.if-kind-eq0.false, small)
+    let p = c.requires in (p.side_low, p.side_high, positive _ c.if-kind-eq0.false, small)
 
 pub overflow_add-out : goal.overflow_add-out
 overflow_add-out c = let few = c.requires.few (λ z. c.if-kind-eq0.false (c.hand_kind-kind.ensures ∙ z)) in

@@ -2,7 +2,7 @@
 use Rattle.std.proofs.Common.{ℕ, ◌-◌, ap, ◌∙◌, zero-le, arith}
 use Rattle.squares.specs.Kinds.{good_kind, kind_row, kinds}
 use Rattle.squares.specs.Answers.{NumberValue, letter_answer}
-use Rattle.squares.proofs.Numbers.{kind-high}
+use Rattle.squares.proofs.Numbers.{kind_high}
 use Rattle.squares.proofs.Tests.{rows_number}
 use Rattle.squares.proofs.piece_kind.PieceKind.letter.Goals as goal
 
@@ -39,4 +39,4 @@ returns-in_default c = rows_number (λ k. record { number = 2; value = 0 }) lett
 
 pub returns-in_default-2 : goal.returns-in_default-2
 unfolding letter_answer
-returns-in_default-2 c = rw (kind-high c.args.kind (omega arith))
+returns-in_default-2 c = rw (kind_high c.args.kind (omega arith))

@@ -4,7 +4,7 @@ use Rattle.std.proofs.Common.{sym, inl, inr, ⊎_elim, zero-le}
 use lib.Arith.{lt_of_le-ne}
 use Rattle.squares.specs.Kinds.{good_kind, kind_row, kinds}
 use Rattle.squares.specs.Answers.{limit_answer}
-use Rattle.squares.proofs.Numbers.{kind-high}
+use Rattle.squares.proofs.Numbers.{kind_high}
 use Rattle.squares.proofs.Tests.{rows_number}
 use Rattle.squares.proofs.piece_kind.PieceKind.limit.Goals as goal
 
@@ -39,4 +39,4 @@ returns-in_default c = rows_number (λ k. record { number = 2; value = 0 }) limi
 
 pub returns-in_default-2 : goal.returns-in_default-2
 unfolding limit_answer
-returns-in_default-2 c = rw (kind-high c.args.kind (omega arith))
+returns-in_default-2 c = rw (kind_high c.args.kind (omega arith))

@@ -3,7 +3,7 @@ use Rattle.std.proofs.Common.{◌≡◌}
 use Rattle.std.proofs.Common.{◌+◌, true, false, zero-le, arith}
 use Rattle.squares.specs.Kinds.{good_kind, kind_row, kinds}
 use Rattle.squares.specs.Answers.{promoted_answer}
-use Rattle.squares.proofs.Numbers.{kind-high}
+use Rattle.squares.proofs.Numbers.{kind_high}
 use Rattle.squares.proofs.Tests.{rows_form}
 use Rattle.squares.proofs.piece_kind.PieceKind.promote.Goals as goal
 
@@ -29,7 +29,7 @@ returns-in_default c = rows_form (λ k. record { number = 2; found = false; valu
 
 pub returns-in_default-2 : goal.returns-in_default-2
 unfolding promoted_answer
-returns-in_default-2 c = rw (kind-high c.args.kind (omega arith))
+returns-in_default-2 c = rw (kind_high c.args.kind (omega arith))
 
 pub returns-in-1-to-14 : goal.returns-in-1-to-14
 unfolding promoted_answer good_kind kind_row kinds
