@@ -6,11 +6,11 @@ use Rattle.position.specs.Plans.{stored_by}
 use Rattle.position.proofs.carry.store.Goals as goal
 
 pub overflow_sub-q : goal.overflow_sub-q
-overflow_sub-q c = let t = c.before.before.before.before.before in omega (arith, t.requires.side t.if-plan-eq0.true)
+overflow_sub-q c = omega (arith, c.requires.side c.if-plan-eq0.true)
 
 pub overflow_add-q : goal.overflow_add-q
 unfolding top_ply
-overflow_add-q c = let t = c.before.before.before.before.before.before in omega (arith, t.requires.ply t.if-plan-eq0.true)
+overflow_add-q c = omega (arith, c.requires.ply c.if-plan-eq0.true)
 
 pub returns-then-plan-eq0 : goal.returns-then-plan-eq0
 unfolding stored_by other_colour

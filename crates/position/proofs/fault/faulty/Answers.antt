@@ -15,21 +15,19 @@ returns-then-not-is_cell c =
 pub returns-then-players_differ : goal.returns-then-players_differ
 unfolding faulty_at
 returns-then-players_differ c =
-    let s = c.before.before.before.before.before.before.before in
-    let cell : ℕ = cell_at s.args.p.board s.args.n in
+    let cell : ℕ = cell_at c.args.p.board c.args.n in
     let good : good_cell cell ≡ true = sym c.is_cell.ensures ∙ c.if-not-is_cell.false in
-    let any : any_below (disagrees s.args.p.players (colour_of cell) s.args.n) 2 ≡ true =
-    ap (λ (m : ℕ). any_below (disagrees s.args.p.players m s.args.n) 2) (sym c.color_of.ensures)
+    let any : any_below (disagrees c.args.p.players (colour_of cell) c.args.n) 2 ≡ true =
+    ap (λ (m : ℕ). any_below (disagrees c.args.p.players m c.args.n) 2) (sym c.color_of.ensures)
     ∙ sym c.players_differ.ensures ∙ c.if-players_differ.true in
     rw (good, any)
 
 pub returns : goal.returns
 unfolding faulty_at
 returns c =
-    let s = c.before.before.before.before.before.before.before.before.before.before in
-    let cell : ℕ = cell_at s.args.p.board s.args.n in
+    let cell : ℕ = cell_at c.args.p.board c.args.n in
     let good : good_cell cell ≡ true = sym c.is_cell.ensures ∙ c.if-not-is_cell.false in
-    let none : any_below (disagrees s.args.p.players (colour_of cell) s.args.n) 2 ≡ false =
-    ap (λ (m : ℕ). any_below (disagrees s.args.p.players m s.args.n) 2) (sym c.color_of.ensures)
+    let none : any_below (disagrees c.args.p.players (colour_of cell) c.args.n) 2 ≡ false =
+    ap (λ (m : ℕ). any_below (disagrees c.args.p.players m c.args.n) 2) (sym c.color_of.ensures)
     ∙ sym c.players_differ.ensures ∙ c.if-players_differ.false in
-    rw (good, none) (c.kinds_differ.ensures ∙ ap (λ (m : ℕ). any_below (disagrees s.args.p.kinds m s.args.n) 14) c.kind_of.ensures)
+    rw (good, none) (c.kinds_differ.ensures ∙ ap (λ (m : ℕ). any_below (disagrees c.args.p.kinds m c.args.n) 14) c.kind_of.ensures)

@@ -11,5 +11,4 @@ returns-then-at-lt14 c = rw c.kind_of-kind.ensures
 
 pub returns-else-at-lt14 : goal.returns-else-at-lt14
 unfolding hand_at
-returns-else-at-lt14 c = let s = c.before.before in
-    rw (← c.kind_of-kind.ensures) (sym (get_or-eq_default s.args.hands 0 {n = (s.args.side - 1) * 7 + (c.kind_of-kind.result - 1)} (omega (arith, s.well_formed))))
+returns-else-at-lt14 c = rw (← c.kind_of-kind.ensures) (sym (get_or-eq_default c.args.hands 0 {n = (c.args.side - 1) * 7 + (c.kind_of-kind.result - 1)} (omega (arith, c.well_formed))))

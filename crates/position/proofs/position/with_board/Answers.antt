@@ -5,7 +5,5 @@ use Rattle.position.proofs.position.with_board.Goals as goal
 
 pub returns : goal.returns
 returns c =
-    let k = c.before.before in
-    let m = k.before.before.before.before.before.before.before.before.before in
-    λ good. made_full _ _ good _ m.of-marks.ensures _ _ _ _ _ _ (k.first_square-bking.ensures ∙ ap smallest k.and.ensures)
-    (k.first_square-wking.ensures ∙ ap smallest k.and-2.ensures)
+    λ good. made_full _ _ good _ c.of-marks.ensures _ _ _ _ _ _ (c.first_square-bking.ensures ∙ ap smallest c.and.ensures)
+    (c.first_square-wking.ensures ∙ ap smallest c.and-2.ensures)

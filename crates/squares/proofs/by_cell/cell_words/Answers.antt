@@ -21,8 +21,7 @@ bounds-words-at c = c.place-at.ensures.1
 pub overflow_add-words : goal.overflow_add-words
 overflow_add-words c =
     let l = c.loop-i in
-    let s = c in
-    record { fits = words_room s.args.board.now s.args.from l.i c.place-at.result l.bit l.words l.invariant.1 c.place-at.ensures.1 l.invariant.2 (omega (arith, s.requires, c.loop-i-test.true)) }
+    record { fits = words_room c.args.board.now c.args.from l.i c.place-at.result l.bit l.words l.invariant.1 c.place-at.ensures.1 l.invariant.2 (omega (arith, c.requires, c.loop-i-test.true)) }
 
 pub bounds-words-at-in-loop-i : goal.bounds-words-at-in-loop-i
 bounds-words-at-in-loop-i c = c.place-at.ensures.1
@@ -35,15 +34,13 @@ loop-i-smaller c = omega (arith, c.loop-i-test.true)
 
 pub loop-i-preserved : goal.loop-i-preserved
 loop-i-preserved c =
-    let l = c.loop-i in
-    let s = c in (
+    let l = c.loop-i in (
       omega (arith, c.loop-i-test.true),
-      words_more s.args.board.now s.args.from l.i c.place-at.result l.bit l.words l.invariant.1 c.place-at.ensures.1 c.place-at.ensures.0 l.invariant.2,
-      next_bit l.bit l.i l.invariant.2 (omega (arith, s.requires, c.loop-i-test.true)),
+      words_more c.args.board.now c.args.from l.i c.place-at.result l.bit l.words l.invariant.1 c.place-at.ensures.1 c.place-at.ensures.0 l.invariant.2,
+      next_bit l.bit l.i l.invariant.2 (omega (arith, c.requires, c.loop-i-test.true)),
     )
 
 pub returns : goal.returns
 returns c =
     let l = c.loop-i in
-    let s = c in
-    l.invariant.1 ∙ words_all s.args.board.now s.args.from s.args.count l.i (omega (arith, l.invariant.0, c.loop-i-test.false))
+    l.invariant.1 ∙ words_all c.args.board.now c.args.from c.args.count l.i (omega (arith, l.invariant.0, c.loop-i-test.false))

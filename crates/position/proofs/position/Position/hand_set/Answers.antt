@@ -10,11 +10,7 @@ use Rattle.position.proofs.position.Position.hand_set.Goals as goal
 pub returns : goal.returns
 unfolding hand_edited with_hands machine
 returns c =
-    let a = c.before in
-    let w = a.before in
-    let t = w.before in
-    let s = t.before.before in
-    let e = heard_as _ _ _ _ t.checked-told.ensures t.is_hand.ensures in
+    let e = heard_as _ _ _ _ c.checked-told.ensures c.is_hand.ensures in
     c.settle.ensures
     ∙ edit_asked _ _ _ _ e _ (λ z.
-    w.with_hand-next.ensures (not-false _ (done_good _ _ _ e z)) ∙ same-cells _ (sized _ _ s.well_formed.0) (done_sound _ _ _ e z) _ _ _ _) _ a.told_after.ensures
+    c.with_hand-next.ensures (not-false _ (done_good _ _ _ e z)) ∙ same-cells _ (sized _ _ c.well_formed.0) (done_sound _ _ _ e z) _ _ _ _) _ c.told_after.ensures

@@ -8,8 +8,5 @@ use Rattle.position.proofs.position.Position.occupied_bitboard.Goals as goal
 pub returns : goal.returns
 unfolding occupied_answer
 returns c =
-    let o = c.before in
-    let t = o.before in
-    let s = t.before.before in
     c.told_set.ensures
-    ∙ set_told _ _ _ (t.soundness.ensures ∙ told_query_lem _ _ refl) _ _ (λ g h. o.both_players.ensures ∙ occupied_set s.args.self (sized _ _ s.well_formed.0) h)
+    ∙ set_told _ _ _ (c.soundness.ensures ∙ told_query_lem _ _ refl) _ _ (λ g h. c.both_players.ensures ∙ occupied_set c.args.self (sized _ _ c.well_formed.0) h)

@@ -8,8 +8,6 @@ use Rattle.position.proofs.position.Position.piece_kind_bitboard.Goals as goal
 pub returns : goal.returns
 unfolding kind_set_answer
 returns c =
-    let t = c.before.before.before in
-    let s = t.before.before in
     c.told_set.ensures
-    ∙ set_told _ _ _ (heard_as _ _ _ _ t.checked-told.ensures t.is_good.ensures) _ _ (λ g h.
-    c.kind_set.ensures (not-false _ g) ∙ kind-set _ (sized _ _ s.well_formed.0) h _ (not-false _ g))
+    ∙ set_told _ _ _ (heard_as _ _ _ _ c.checked-told.ensures c.is_good.ensures) _ _ (λ g h.
+    c.kind_set.ensures (not-false _ g) ∙ kind-set _ (sized _ _ c.well_formed.0) h _ (not-false _ g))

@@ -8,12 +8,8 @@ use Rattle.position.proofs.position.Position.piece_set.Goals as goal
 pub returns : goal.returns
 unfolding cell_edited
 returns c =
-    let a = c.before in
-    let w = a.before in
-    let t = w.before in
-    let s = t.before.before in
-    let e = heard_as _ _ _ _ t.checked-told.ensures t.is_place.ensures in
+    let e = heard_as _ _ _ _ c.checked-told.ensures c.is_place.ensures in
     c.settle.ensures
     ∙ edit_asked _ _ _ _ e _ (λ z.
-    let g = cell-good _ (sized _ _ s.well_formed.0) (done_sound _ _ _ e z) _ _ (done_good _ _ _ e z) in
-    w.with_cell-next.ensures g.0 g.1) _ a.told_after.ensures
+    let g = cell-good _ (sized _ _ c.well_formed.0) (done_sound _ _ _ e z) _ _ (done_good _ _ _ e z) in
+    c.with_cell-next.ensures g.0 g.1) _ c.told_after.ensures

@@ -10,9 +10,7 @@ use Rattle.position.proofs.position.Position.ply_set.Goals as goal
 pub returns : goal.returns
 unfolding ply_edited with_ply machine
 returns c =
-    let t = c.before in
-    let s = t.before.before in
-    let e = heard_as _ _ _ _ t.checked-told.ensures t.is_ply.ensures in
-    let size = sized _ _ s.well_formed.0 in
+    let e = heard_as _ _ _ _ c.checked-told.ensures c.is_ply.ensures in
+    let size = sized _ _ c.well_formed.0 in
     c.settle.ensures
     ∙ edit_sure _ _ _ _ e _ (λ z. same-cells _ size (done_sound _ _ _ e z) _ _ _ _) (λ z. ply-sound _ size (done_sound _ _ _ e z) _ (not-false _ (done_good _ _ _ e z)))

@@ -10,9 +10,7 @@ use Rattle.position.proofs.position.Position.side_to_move_set.Goals as goal
 pub returns : goal.returns
 unfolding side_edited with_side machine
 returns c =
-    let t = c.before in
-    let s = t.before.before in
-    let e = heard_as _ _ _ _ t.checked-told.ensures t.is_good.ensures in
-    let size = sized _ _ s.well_formed.0 in
+    let e = heard_as _ _ _ _ c.checked-told.ensures c.is_good.ensures in
+    let size = sized _ _ c.well_formed.0 in
     c.settle.ensures
     ∙ edit_sure _ _ _ _ e _ (λ z. same-cells _ size (done_sound _ _ _ e z) _ _ _ _) (λ z. side-sound _ size (done_sound _ _ _ e z) _ (not-false _ (done_good _ _ _ e z)))

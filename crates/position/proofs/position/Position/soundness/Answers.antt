@@ -7,9 +7,8 @@ use Rattle.position.proofs.position.Position.soundness.Goals as goal
 
 pub returns-then-not-is_tidy : goal.returns-then-not-is_tidy
 returns-then-not-is_tidy c =
-    let s = c.before.before.before in
-    let p = s.args.self in
-    rw c.first_fault.ensures (told_unsound p (untidy_unsound p (sized _ _ s.well_formed.0) (c.is_tidy.ensures.no (c.if-not-is_tidy.true))))
+    let p = c.args.self in
+    rw c.first_fault.ensures (told_unsound p (untidy_unsound p (sized _ _ c.well_formed.0) (c.is_tidy.ensures.no (c.if-not-is_tidy.true))))
 
 pub fault_elsewhere-requires : goal.fault_elsewhere-requires
 fault_elsewhere-requires c = c.is_tidy.ensures.yes (c.if-not-is_tidy.false)

@@ -9,9 +9,6 @@ use Rattle.position.proofs.position.Position.vacant_bitboard.Goals as goal
 pub returns : goal.returns
 unfolding vacant_answer
 returns c =
-    let o = c.before.before in
-    let t = o.before in
-    let s = t.before.before in
     c.told_set.ensures
-    ∙ set_told _ _ _ (t.soundness.ensures ∙ told_query_lem _ _ refl) _ _ (λ g h.
-    c.not.ensures ∙ ap not_s (o.both_players.ensures ∙ occupied_set s.args.self (sized _ _ s.well_formed.0) h) ∙ vacant_set s.args.self)
+    ∙ set_told _ _ _ (c.soundness.ensures ∙ told_query_lem _ _ refl) _ _ (λ g h.
+    c.not.ensures ∙ ap not_s (c.both_players.ensures ∙ occupied_set c.args.self (sized _ _ c.well_formed.0) h) ∙ vacant_set c.args.self)

@@ -29,11 +29,9 @@ loop-k-smaller c = omega (arith, c.loop-k-test.true)
 pub loop-k-preserved : goal.loop-k-preserved
 loop-k-preserved c =
     let l = c.loop-k in
-    let s = c in
     let t = c.loop-k-test.true in
-    (omega (arith, t), filled_more _ 32 l.k l.sets _ t l.invariant.1 (placed_at s.args.board.now l.k _ _ _ _ t c.cell_words-low.ensures c.cell_words-high.ensures refl refl))
+    (omega (arith, t), filled_more _ 32 l.k l.sets _ t l.invariant.1 (placed_at c.args.board.now l.k _ _ _ _ t c.cell_words-low.ensures c.cell_words-high.ensures refl refl))
 
 pub returns : goal.returns
 returns c =
-    let s = c in
-    filled_all _ 32 c.loop-k.k _ c.loop-k-test.false c.loop-k.invariant.1 ∙ placed_all s.args.board.now
+    filled_all _ 32 c.loop-k.k _ c.loop-k-test.false c.loop-k.invariant.1 ∙ placed_all c.args.board.now

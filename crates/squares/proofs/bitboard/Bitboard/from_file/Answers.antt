@@ -10,7 +10,7 @@ pub file_set-requires : goal.file_set-requires
 file_set-requires c = ((omega arith), omega arith, omega (arith, c.if-pattern-gt511.false))
 
 pub returns-in-1-to-9 : goal.returns-in-1-to-9
-returns-in-1-to-9 c = let t = c in file-good c.args.file c.args.pattern (omega arith) (omega arith) t.if-pattern-gt511.false c.file_set.ensures
+returns-in-1-to-9 c = file-good c.args.file c.args.pattern (omega arith) (omega arith) c.if-pattern-gt511.false c.file_set.ensures
 
 pub returns-in_default : goal.returns-in_default
 returns-in_default c = file_bad _ _ (side_low 9 c.args.file (omega arith))

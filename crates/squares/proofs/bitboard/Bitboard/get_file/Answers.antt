@@ -7,7 +7,7 @@ pub file_pattern-requires : goal.file_pattern-requires
 file_pattern-requires c = ((omega arith), omega arith)
 
 pub returns-in-1-to-9 : goal.returns-in-1-to-9
-returns-in-1-to-9 c = let t = c in pattern_good _ c.args.file (omega arith) (omega arith) c.file_pattern.ensures
+returns-in-1-to-9 c = pattern_good _ c.args.file (omega arith) (omega arith) c.file_pattern.ensures
 
 pub returns-in_default : goal.returns-in_default
 returns-in_default c = pattern_bad _ _ (side_low 9 c.args.file (omega arith))

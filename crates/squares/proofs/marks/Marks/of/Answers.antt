@@ -8,9 +8,8 @@ use Rattle.squares.proofs.marks.Marks.of.Goals as goal
 
 pub returns-then-any_square : goal.returns-then-any_square
 returns-then-any_square c =
-    let s = c in
-    marks_bad s.args.board.now _ s.empty-none.ensures
-    (not-true _ (sym (bad_told s.args.board.now _ _ _ _ s.by_cell-sets.ensures) ∙ sym s.any_square.ensures ∙ c.if-any_square.true))
+    marks_bad c.args.board.now _ c.empty-none.ensures
+    (not-true _ (sym (bad_told c.args.board.now _ _ _ _ c.by_cell-sets.ensures) ∙ sym c.any_square.ensures ∙ c.if-any_square.true))
 
 pub loop-j-init : goal.loop-j-init
 loop-j-init c =
@@ -32,8 +31,7 @@ loop-j-preserved c =
 pub returns : goal.returns
 returns c =
     let l = c.loop-j in
-    let s = c in
-    let b = s.args.board.now in
+    let b = c.args.board.now in
     let e : l.j ≡ 14 = omega arith in
-    marks-good b (not-false _ (sym (bad_told b _ _ _ _ s.by_cell-sets.ensures) ∙ sym s.any_square.ensures ∙ c.if-any_square.false)) _ _ _
+    marks-good b (not-false _ (sym (bad_told b _ _ _ _ c.by_cell-sets.ensures) ∙ sym c.any_square.ensures ∙ c.if-any_square.false)) _ _ _
     (l.invariant.1 ∙ ap (side_to b 1) e) (l.invariant.2 ∙ ap (side_to b 17) e) (filled_all (both_of b) 14 l.j l.kinds (omega arith) l.invariant.3)

@@ -5,13 +5,13 @@ pub returns-then-piece-gt31 : goal.returns-then-piece-gt31
 returns-then-piece-gt31 c = promoted_bad _ c.if-piece-gt31.true
 
 pub overflow_add-result : goal.overflow_add-result
-overflow_add-result c = let s = c in record { fits = promoted-fits _ s.if-piece-gt31.false c.in-Form.is s.promote.ensures }
+overflow_add-result c = record { fits = promoted-fits _ c.if-piece-gt31.false c.in-Form.is c.promote.ensures }
 
 pub returns-in-Form : goal.returns-in-Form
-returns-in-Form c = let s = c in promoted-piece _ s.if-piece-gt31.false c.in-Form.is s.promote.ensures
+returns-in-Form c = promoted-piece _ c.if-piece-gt31.false c.in-Form.is c.promote.ensures
 
 pub returns-in-Nothing : goal.returns-in-Nothing
-returns-in-Nothing c = let s = c in promoted-piece _ s.if-piece-gt31.false c.in-Nothing.is s.promote.ensures
+returns-in-Nothing c = promoted-piece _ c.if-piece-gt31.false c.in-Nothing.is c.promote.ensures
 
 pub returns-in-BadNumber : goal.returns-in-BadNumber
-returns-in-BadNumber c = let s = c in promoted-piece _ s.if-piece-gt31.false c.in-BadNumber.is s.promote.ensures
+returns-in-BadNumber c = promoted-piece _ c.if-piece-gt31.false c.in-BadNumber.is c.promote.ensures

@@ -5,10 +5,10 @@ pub returns-then-piece-gt31 : goal.returns-then-piece-gt31
 returns-then-piece-gt31 c = unpromoted_bad _ c.if-piece-gt31.true
 
 pub overflow_add-result : goal.overflow_add-result
-overflow_add-result c = let s = c in record { fits = unpromoted-fits _ s.if-piece-gt31.false c.in-Number.is s.unpromote.ensures }
+overflow_add-result c = record { fits = unpromoted-fits _ c.if-piece-gt31.false c.in-Number.is c.unpromote.ensures }
 
 pub returns-in-Number : goal.returns-in-Number
-returns-in-Number c = let s = c in unpromoted-piece _ s.if-piece-gt31.false c.in-Number.is s.unpromote.ensures
+returns-in-Number c = unpromoted-piece _ c.if-piece-gt31.false c.in-Number.is c.unpromote.ensures
 
 pub returns-in-BadNumber : goal.returns-in-BadNumber
-returns-in-BadNumber c = let s = c in unpromoted-piece _ s.if-piece-gt31.false c.in-BadNumber.is s.unpromote.ensures
+returns-in-BadNumber c = unpromoted-piece _ c.if-piece-gt31.false c.in-BadNumber.is c.unpromote.ensures
