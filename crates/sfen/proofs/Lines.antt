@@ -25,6 +25,11 @@ room_first a b r = record { size = r.size; fits = omega (arith, r.fits, length-a
 pub room_next : {d e : List ℕ} {m n : ℕ} (a b : List ℕ) → Room d m (a ++ b) → Puts d m e n a → Room e n b
 room_next a b r p = record { size = p.kept ∙ r.size; fits = omega (arith, r.fits, p.len, length-append a b) }
 
+-- the room that is left once something is put: a chain of these reads as the code does
+infixl 20 ◌▸◌
+pub ◌▸◌ : {d e : List ℕ} {m n : ℕ} {a b : List ℕ} → Room d m (a ++ b) → Puts d m e n a → Room e n b
+r ▸ p = room_next _ _ r p
+
 pub room_less : {d : List ℕ} {m : ℕ} (a b : List ℕ) → length a ≤ length b → Room d m b → Room d m a
 room_less a b h r = record { size = r.size; fits = omega (arith, r.fits, h) }
 

@@ -1,10 +1,10 @@
-use Prim.Native.Nat.{ℕ, ◌+◌}
+use Prim.Native.Nat.{ℕ, ◌+◌, ◌≤◌}
 use mathlib.Core.List.{List, [], ◌∷◌, ◌++◌}
 use native.Mathlib.Omega.{arith}
 use lib.Dec.{lit≤}
-use Rattle.sfen.specs.Text.{rank_text, rank_cells}
-use Rattle.sfen.specs.Inner.{Room, Owes}
-use Rattle.sfen.proofs.Lines.{puts_append, room_first, room_next, owes_all, owes_less, owes_none, owes_room}
+use Rattle.sfen.specs.Text.{shogi, board_text, rank_text, rank_cells}
+use Rattle.sfen.specs.Inner.{Room, Puts, Owes}
+use Rattle.sfen.proofs.Lines.{puts_append, room_first, ◌▸◌, owes_all, owes_less, owes_none, owes_room}
 use Rattle.sfen.proofs.Cases.{ranks_left, board_first, ranks-none, ranks_less}
 use Rattle.sfen.proofs.board.put_board.Goals as goal
 
@@ -18,31 +18,30 @@ put_rank-to-requires c = let b = c.args.board.now in
 pub loop-rank-init : goal.loop-rank-init
 loop-rank-init c = (lit≤ tt, lit≤ tt, owes_all _)
 
+-- in a turn: the slash, the rank and the ranks after it are still to be written
+later : {d e : List ℕ} {m n : ℕ} (b : List ℕ) (rank : ℕ) → rank ≤ 9 → Owes d m e n (ranks_left b 2) (ranks_left b rank)
+    → Owes d m e n (ranks_left b 2) ((47 ∷ []) ++ (rank-text b rank ++ ranks_left b (rank + 1)))
+later b rank h o = rw (ranks_less b rank h) at o
+
+-- and there is room for all ranks after the first
+room_later : {d e : List ℕ} {m n : ℕ} (b : List ℕ) → Room d m (board_text shogi b) → Puts d m e n (rank-text b 1) → Room e n (ranks_left b 2)
+room_later b r p = (rw (board_first b) at r) ▸ p
+
 pub put-to-requires : goal.put-to-requires
 put-to-requires c =
-    let owed : let b = c.args.board.now in let l = c.loop-rank in let p = c.put_rank-to in Owes p.new.line p.result l.line l.to (ranks_left b 2) ((47 ∷ []) ++ (rank-text b l.rank ++ ranks_left b (l.rank + 1))) = let b = c.args.board.now in
-    rw (ranks_less b c.loop-rank.rank (omega arith)) at c.loop-rank.invariant.2 in
-    let room : let b = c.args.board.now in let p = c.put_rank-to in Room p.new.line p.result (ranks_left b 2) = let b = c.args.board.now in
-    room_next (rank-text b 1) _ (rw (board_first b) at c.requires) c.put_rank-to.ensures in
-    room_first (47 ∷ []) _ (owes_room _ room owed)
+    let owed = later c.args.board.now c.loop-rank.rank (omega arith) c.loop-rank.invariant.2 in
+    room_first (47 ∷ []) _ (owes_room _ (room_later c.args.board.now c.requires c.put_rank-to.ensures) owed)
 
 pub put_rank-to-requires-in-loop-rank : goal.put_rank-to-requires-in-loop-rank
 put_rank-to-requires-in-loop-rank c =
-    let owed : let b = c.args.board.now in let l = c.loop-rank in let p = c.put_rank-to in Owes p.new.line p.result l.line l.to (ranks_left b 2) ((47 ∷ []) ++ (rank-text b l.rank ++ ranks_left b (l.rank + 1))) = let b = c.args.board.now in
-    rw (ranks_less b c.loop-rank.rank (omega arith)) at c.loop-rank.invariant.2 in
-    let room : let b = c.args.board.now in let p = c.put_rank-to in Room p.new.line p.result (ranks_left b 2) = let b = c.args.board.now in
-    room_next (rank-text b 1) _ (rw (board_first b) at c.requires) c.put_rank-to.ensures in
-    let b = c.args.board.now in
-    let o = owes_less (47 ∷ []) _ owed c.put-to.ensures in
-    (room_first (rank-text b c.loop-rank.rank) _ (owes_room _ room o), omega arith, omega arith)
+    let owed = owes_less (47 ∷ []) _ (later c.args.board.now c.loop-rank.rank (omega arith) c.loop-rank.invariant.2) c.put-to.ensures in
+    let room = owes_room _ (room_later c.args.board.now c.requires c.put_rank-to.ensures) owed in
+    (room_first (rank-text c.args.board.now c.loop-rank.rank) _ room, omega arith, omega arith)
 
 pub loop-rank-preserved : goal.loop-rank-preserved
 loop-rank-preserved c =
-    let owed : let b = c.args.board.now in let l = c.loop-rank in let p = c.put_rank-to in Owes p.new.line p.result l.line l.to (ranks_left b 2) ((47 ∷ []) ++ (rank-text b l.rank ++ ranks_left b (l.rank + 1))) = let b = c.args.board.now in
-    rw (ranks_less b c.loop-rank.rank (omega arith)) at c.loop-rank.invariant.2 in
-    let b = c.args.board.now in
-    let o = owes_less (47 ∷ []) _ owed c.put-to.ensures in
-    (omega arith, omega arith, owes_less (rank-text b c.loop-rank.rank) _ o c.put_rank-to-in-loop-rank.ensures)
+    let owed = owes_less (47 ∷ []) _ (later c.args.board.now c.loop-rank.rank (omega arith) c.loop-rank.invariant.2) c.put-to.ensures in
+    (omega arith, omega arith, owes_less (rank-text c.args.board.now c.loop-rank.rank) _ owed c.put_rank-to-in-loop-rank.ensures)
 
 pub returns : goal.returns
 returns c = let b = c.args.board.now in

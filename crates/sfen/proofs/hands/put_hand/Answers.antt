@@ -20,17 +20,15 @@ loop-kind-init c = (lit≤ tt, rw (hand_all c.args.hands.now c.args.color) (owes
 pub put_count-to-requires : goal.put_count-to-requires
 unfolding hand_at
 put_count-to-requires c =
-    let owed : let l = c.loop-kind in let a = c.args in Owes a.line.now a.at l.line l.to (hand_text shogi.held a.hands.now a.color) (now_count c.args.hands.now c.args.color c.loop-kind.kind ++ hand_left a.hands.now a.color (l.kind - 1)) = let l = c.loop-kind in
-    let a = c.args in
-    rw (hand_less a.hands.now a.color l.kind (omega arith)) at l.invariant.1 in
+    let l = c.loop-kind in
+    let owed = rw (hand_less c.args.hands.now c.args.color l.kind (omega arith)) at l.invariant.1 in
     rw c.letter.ensures (room_first (now_count c.args.hands.now c.args.color c.loop-kind.kind) _ (owes_room _ c.requires.0 owed))
 
 pub loop-kind-preserved : goal.loop-kind-preserved
 unfolding hand_at
 loop-kind-preserved c =
-    let owed : let l = c.loop-kind in let a = c.args in Owes a.line.now a.at l.line l.to (hand_text shogi.held a.hands.now a.color) (now_count c.args.hands.now c.args.color c.loop-kind.kind ++ hand_left a.hands.now a.color (l.kind - 1)) = let l = c.loop-kind in
-    let a = c.args in
-    rw (hand_less a.hands.now a.color l.kind (omega arith)) at l.invariant.1 in
+    let l = c.loop-kind in
+    let owed = rw (hand_less c.args.hands.now c.args.color l.kind (omega arith)) at l.invariant.1 in
     (omega arith, owes_less (now_count c.args.hands.now c.args.color c.loop-kind.kind) _ owed (rw c.letter.ensures at c.put_count-to.ensures))
 
 pub returns : goal.returns

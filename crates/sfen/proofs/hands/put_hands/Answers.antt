@@ -16,6 +16,10 @@ both hands = hand_text shogi.held hands 1 ++ hand_text shogi.held hands 2
 room-both : {d : List ℕ} {m : ℕ} (hands : List ℕ) → Room d m (hands_text shogi hands) → Room d m (both hands)
 room-both hands r = room_less (both hands) _ (dash_length (both hands)) (rw (hands_both hands) at r)
 
+both_put : {d e f : List ℕ} {k m n : ℕ} (hands : List ℕ)
+    → Puts d k e m (hand_text shogi.held hands 1) → Puts e m f n (hand_text shogi.held hands 2) → Puts d k f n (both hands)
+both_put hands = puts_append (hand_text shogi.held hands 1) _
+
 pub put_hand-black-requires : goal.put_hand-black-requires
 put_hand-black-requires c = (room_first (hand_text shogi.held c.args.hands.now 1) _ (room-both c.args.hands.now c.requires), lit≤ tt, lit≤ tt)
 
@@ -24,8 +28,7 @@ put_hand-both-requires c = (room_next (hand_text shogi.held c.args.hands.now 1) 
 
 pub put-requires : goal.put-requires
 put-requires c =
-    let wrote : let a = c.args in Puts a.line.now a.at c.put_hand-both.new.line c.put_hand-both.result (both a.hands.now) = let a = c.args in
-    puts_append (hand_text shogi.held a.hands.now 1) _ c.put_hand-black.ensures c.put_hand-both.ensures in
+    let wrote = both_put c.args.hands.now c.put_hand-black.ensures c.put_hand-both.ensures in
     let h = c.args.hands.now in
     let t : c.put_hand-both.result ≡ c.args.at = c.if-both-at.true in
     let z : length (both h) ≡ 0 = omega (arith, wrote.len, t) in
@@ -33,8 +36,7 @@ put-requires c =
 
 pub returns-then-both-at : goal.returns-then-both-at
 returns-then-both-at c =
-    let wrote : let a = c.args in Puts a.line.now a.at c.put_hand-both.new.line c.put_hand-both.result (both a.hands.now) = let a = c.args in
-    puts_append (hand_text shogi.held a.hands.now 1) _ c.put_hand-black.ensures c.put_hand-both.ensures in
+    let wrote = both_put c.args.hands.now c.put_hand-black.ensures c.put_hand-both.ensures in
     let h = c.args.hands.now in
     let t : c.put_hand-both.result ≡ c.args.at = c.if-both-at.true in
     let z : length (both h) ≡ 0 = omega (arith, wrote.len, t) in
@@ -42,8 +44,7 @@ returns-then-both-at c =
 
 pub returns : goal.returns
 returns c =
-    let wrote : let a = c.args in Puts a.line.now a.at c.put_hand-both.new.line c.put_hand-both.result (both a.hands.now) = let a = c.args in
-    puts_append (hand_text shogi.held a.hands.now 1) _ c.put_hand-black.ensures c.put_hand-both.ensures in
+    let wrote = both_put c.args.hands.now c.put_hand-black.ensures c.put_hand-both.ensures in
     let h = c.args.hands.now in
     let z : length (both h) ≡ 0 → ⊥ = λ q. c.if-both-at.false (omega (arith, wrote.len, q)) in
     rw (hands_both h, dash_some (both h) z) wrote

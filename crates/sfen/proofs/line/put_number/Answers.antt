@@ -3,7 +3,7 @@ use mathlib.Core.List.{List, [], ◌∷◌, ◌++◌}
 use native.Mathlib.Omega.{arith}
 use lib.Dec.{lit≤}
 use Rattle.sfen.specs.Inner.{Room, place}
-use Rattle.sfen.proofs.Lines.{puts_append, room_first, room_next}
+use Rattle.sfen.proofs.Lines.{puts_append, room_first, ◌▸◌}
 use Rattle.sfen.proofs.Cases.{number_places}
 use Rattle.sfen.proofs.line.put_number.Goals as goal
 
@@ -18,38 +18,27 @@ abbrev thousand : ℕ → List ℕ
 thousand n = place 1000 n ++ hundred n
 
 pub put_place-at-requires : goal.put_place-at-requires
-put_place-at-requires c =
-    let room : Room c.args.line.now c.args.at (place 10000 c.args.n ++ thousand c.args.n) = rw (number_places c.args.n (omega arith)) at c.requires in
-    (room_first (place 10000 c.args.n) _ room, lit≤ tt)
+put_place-at-requires c = (room_first (place 10000 c.args.n) _ (rw (number_places c.args.n (omega arith)) at c.requires), lit≤ tt)
 
 pub put_place-at-requires-2 : goal.put_place-at-requires-2
 put_place-at-requires-2 c =
-    let room : Room c.args.line.now c.args.at (place 10000 c.args.n ++ thousand c.args.n) = rw (number_places c.args.n (omega arith)) at c.requires in
-    let after : Room c.put_place-at.new.line c.put_place-at.result (thousand c.args.n) = room_next (place 10000 c.args.n) _ room c.put_place-at.ensures in
-    (room_first (place 1000 c.args.n) _ after, lit≤ tt)
+    let room = rw (number_places c.args.n (omega arith)) at c.requires in
+    (room_first (place 1000 c.args.n) _ (room ▸ c.put_place-at.ensures), lit≤ tt)
 
 pub put_place-at-requires-3 : goal.put_place-at-requires-3
 put_place-at-requires-3 c =
-    let room : Room c.args.line.now c.args.at (place 10000 c.args.n ++ thousand c.args.n) = rw (number_places c.args.n (omega arith)) at c.requires in
-    let after : Room c.put_place-at.new.line c.put_place-at.result (thousand c.args.n) = room_next (place 10000 c.args.n) _ room c.put_place-at.ensures in
-    let after-2 : Room c.put_place-at-2.new.line c.put_place-at-2.result (hundred c.args.n) = room_next (place 1000 c.args.n) _ after c.put_place-at-2.ensures in
-    (room_first (place 100 c.args.n) _ after-2, lit≤ tt)
+    let room = rw (number_places c.args.n (omega arith)) at c.requires in
+    (room_first (place 100 c.args.n) _ (room ▸ c.put_place-at.ensures ▸ c.put_place-at-2.ensures), lit≤ tt)
 
 pub put_place-at-requires-4 : goal.put_place-at-requires-4
 put_place-at-requires-4 c =
-    let room : Room c.args.line.now c.args.at (place 10000 c.args.n ++ thousand c.args.n) = rw (number_places c.args.n (omega arith)) at c.requires in
-    let after : Room c.put_place-at.new.line c.put_place-at.result (thousand c.args.n) = room_next (place 10000 c.args.n) _ room c.put_place-at.ensures in
-    let after-2 : Room c.put_place-at-2.new.line c.put_place-at-2.result (hundred c.args.n) = room_next (place 1000 c.args.n) _ after c.put_place-at-2.ensures in
-    let after-3 : Room c.put_place-at-3.new.line c.put_place-at-3.result (ten c.args.n) = room_next (place 100 c.args.n) _ after-2 c.put_place-at-3.ensures in
-    (room_first (place 10 c.args.n) _ after-3, lit≤ tt)
+    let room = rw (number_places c.args.n (omega arith)) at c.requires in
+    (room_first (place 10 c.args.n) _ (room ▸ c.put_place-at.ensures ▸ c.put_place-at-2.ensures ▸ c.put_place-at-3.ensures), lit≤ tt)
 
 pub put-requires : goal.put-requires
 put-requires c =
-    let room : Room c.args.line.now c.args.at (place 10000 c.args.n ++ thousand c.args.n) = rw (number_places c.args.n (omega arith)) at c.requires in
-    let after : Room c.put_place-at.new.line c.put_place-at.result (thousand c.args.n) = room_next (place 10000 c.args.n) _ room c.put_place-at.ensures in
-    let after-2 : Room c.put_place-at-2.new.line c.put_place-at-2.result (hundred c.args.n) = room_next (place 1000 c.args.n) _ after c.put_place-at-2.ensures in
-    let after-3 : Room c.put_place-at-3.new.line c.put_place-at-3.result (ten c.args.n) = room_next (place 100 c.args.n) _ after-2 c.put_place-at-3.ensures in
-    room_next (place 10 c.args.n) _ after-3 c.put_place-at-4.ensures
+    let room = rw (number_places c.args.n (omega arith)) at c.requires in
+    room ▸ c.put_place-at.ensures ▸ c.put_place-at-2.ensures ▸ c.put_place-at-3.ensures ▸ c.put_place-at-4.ensures
 
 pub returns : goal.returns
 returns c = let n = c.args.n in

@@ -17,7 +17,7 @@ pub put_text-whole-requires : goal.put_text-whole-requires
 unfolding position_text
 put_text-whole-requires c =
     let size : Sized c.args.position = sized _ _ c.well_formed.0 in
-    let passes : sound c.args.position ≡ true = sound_passes _ _ c.soundness-told.ensures c.if-told-ne0.false in
+    let passes = sound_passes _ _ c.soundness-told.ensures c.if-told-ne0.false in
     let fits : length (position_text c.args.position) ≤ 168 = omega (arith, text_bound c.args.position size passes) in
     record { size = refl; fits = omega (arith, fits) }
 
@@ -25,7 +25,7 @@ pub copy_front-requires : goal.copy_front-requires
 unfolding position_text
 copy_front-requires c =
     let size : Sized c.args.position = sized _ _ c.well_formed.0 in
-    let passes : sound c.args.position ≡ true = sound_passes _ _ c.soundness-told.ensures c.if-told-ne0.false in
+    let passes = sound_passes _ _ c.soundness-told.ensures c.if-told-ne0.false in
     let fits : length (position_text c.args.position) ≤ 168 = omega (arith, text_bound c.args.position size passes) in
     let len : c.put_text-whole.result ≡ length (position_text c.args.position) = omega (arith, c.put_text-whole.ensures.len) in
     let f = rw (← c.verdict-answer.ensures) at (fitted-small c.put_text-whole.result (length c.args.out.now)) in
@@ -34,7 +34,7 @@ copy_front-requires c =
 pub returns : goal.returns
 unfolding position_text
 returns c =
-    let passes : sound c.args.position ≡ true = sound_passes _ _ c.soundness-told.ensures c.if-told-ne0.false in
+    let passes = sound_passes _ _ c.soundness-told.ensures c.if-told-ne0.false in
     let len : c.put_text-whole.result ≡ length (position_text c.args.position) = omega (arith, c.put_text-whole.ensures.len) in
     let front : take c.put_text-whole.result c.put_text-whole.new.line ≡ position_text c.args.position = c.put_text-whole.ensures.bytes in
     written c.args.position c.args.out.now passes c.verdict-answer.result c.put_text-whole.result c.put_text-whole.new.line c.copy_front.new.out len front
