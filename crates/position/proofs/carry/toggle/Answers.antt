@@ -1,8 +1,8 @@
 use mathlib.Core.Path.{◌≡◌, sym, ◌∙◌}
-use Prim.Native.Nat.{◌≤◌}
+use Prim.Native.Nat.{ℕ, ◌≤◌}
 use mathlib.Core.Bool.{true}
 use native.Mathlib.Omega.{arith}
-use Rattle.squares.specs.Kinds.{good_piece}
+use Rattle.squares.specs.Kinds.{good_piece, colour_of, kind_of}
 use Rattle.squares.proofs.Laws.{piece_kind}
 use Rattle.position.specs.Machine.{Sized}
 use Rattle.position.proofs.Sizes.{sized}
@@ -11,38 +11,36 @@ use Rattle.position.proofs.Pieces.{colour_in}
 use Rattle.position.proofs.carry.toggle.Goals as goal
 use Rattle.position.proofs.carry.toggle.Goals.{then-cell-ne0, else-cell-ne0}
 
+-- the numbers that the calls tell of a cell that is a piece
+colour : (r cell : ℕ) → r ≡ colour_of cell → (cell ≡ 0 → ⊥) → (1 ≤ r) × (r ≤ 2)
+colour r cell call some = rw call (colour_in cell some)
+
+kind : (r cell : ℕ) → r ≡ kind_of cell → good_piece cell ≡ true → (1 ≤ r) × (r ≤ 14)
+kind r cell call good = rw call (piece_kind cell good)
+
 pub overflow_sub-at : goal.overflow_sub-at
 overflow_sub-at c =
-    let colour : (1 ≤ c.color_of.result) × (c.color_of.result ≤ 2) = rw c.color_of.ensures (colour_in _ c.if-cell-ne0.true) in
-    colour.0
+    (colour _ _ c.color_of.ensures c.if-cell-ne0.true).0
 
 pub bounds-q-at : goal.bounds-q-at
 bounds-q-at c =
-    let colour : (1 ≤ c.color_of.result) × (c.color_of.result ≤ 2) = rw c.color_of.ensures (colour_in _ c.if-cell-ne0.true) in
-    omega (arith, colour.1)
+    omega (arith, (colour _ _ c.color_of.ensures c.if-cell-ne0.true).1)
 
 pub bounds-q-at-then-cell-ne0 : goal.bounds-q-at-then-cell-ne0
 bounds-q-at-then-cell-ne0 c =
-    let colour : (1 ≤ c.color_of.result) × (c.color_of.result ≤ 2) = rw c.color_of.ensures (colour_in _ c.if-cell-ne0.true) in
-    omega (arith, colour.1)
+    omega (arith, (colour _ _ c.color_of.ensures c.if-cell-ne0.true).1)
 
 pub overflow_sub-at-then-is_good : goal.overflow_sub-at-then-is_good
 overflow_sub-at-then-is_good c =
-    let good : good_piece c.args.cell ≡ true = sym c.is_good.ensures ∙ c.if-is_good.true in
-    let kind : (1 ≤ c.kind_of.result) × (c.kind_of.result ≤ 14) = rw c.kind_of.ensures (piece_kind _ good) in
-    kind.0
+    (kind _ _ c.kind_of.ensures (sym c.is_good.ensures ∙ c.if-is_good.true)).0
 
 pub bounds-q-at-then-is_good : goal.bounds-q-at-then-is_good
 bounds-q-at-then-is_good c =
-    let good : good_piece c.args.cell ≡ true = sym c.is_good.ensures ∙ c.if-is_good.true in
-    let kind : (1 ≤ c.kind_of.result) × (c.kind_of.result ≤ 14) = rw c.kind_of.ensures (piece_kind _ good) in
-    omega (arith, kind.1)
+    omega (arith, (kind _ _ c.kind_of.ensures (sym c.is_good.ensures ∙ c.if-is_good.true)).1)
 
 pub bounds-q-at-then-is_good-2 : goal.bounds-q-at-then-is_good-2
 bounds-q-at-then-is_good-2 c =
-    let good : good_piece c.args.cell ≡ true = sym c.is_good.ensures ∙ c.if-is_good.true in
-    let kind : (1 ≤ c.kind_of.result) × (c.kind_of.result ≤ 14) = rw c.kind_of.ensures (piece_kind _ good) in
-    omega (arith, kind.1)
+    omega (arith, (kind _ _ c.kind_of.ensures (sym c.is_good.ensures ∙ c.if-is_good.true)).1)
 
 pub returns-then-is_good : goal.returns-then-is_good
 returns-then-is_good c =
