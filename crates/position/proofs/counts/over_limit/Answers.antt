@@ -1,14 +1,24 @@
-use Prim.Native.Nat.{ℕ, ◌+◌, ◌≤◌, ◌<◌}
+use Prim.Native.Nat.{ℕ, ◌<◌}
 use mathlib.Core.Path.{◌≡◌, sym, ap, ap₂, ◌∙◌}
-use mathlib.Core.Bool.{true, false}
 use native.Mathlib.Omega.{arith}
-use lib.ListN.{get_or}
+use mathlib.Core.List.{List}
+use lib.ListN.{length, get_or}
+use Rattle.squares.specs.declared.bitboard.Bitboard.{Bitboard}
 use Rattle.squares.specs.Sets.{empty_s, or_s, size}
 use Rattle.squares.proofs.Laws.{get_d_any}
-use Rattle.position.specs.Inner.{sets_size, over_by_sets}
+use Rattle.position.specs.Inner.{promoted_at, sets_size}
 use Rattle.position.proofs.Agree.{any_none, any_more, any_at}
 use Rattle.position.proofs.Elsewhere.{over_yes, over_no}
 use Rattle.position.proofs.counts.over_limit.Goals as goal
+
+-- how many stand on the board of a kind, by its set and that of its promoted form at i
+standing : (kinds : List Bitboard) (j i : ℕ) (d e s : Bitboard) (n r : ℕ) → length kinds ≡ 14 → j < 7 → (i ≡ promoted_at j) × (i < 14)
+    → s ≡ or_s (get_or kinds j d) (get_or kinds i e) → n ≡ size s → r ≡ n → r ≡ sets_size kinds j
+unfolding sets_size
+standing kinds j i d e s n r len h there both count wide =
+    wide ∙ count
+    ∙ ap size (both
+    ∙ ap₂ or_s (get_d_any kinds j _ empty_s (omega arith)) (get_d_any kinds i _ empty_s (omega (arith, there.1)) ∙ ap (λ (k : ℕ). get_or kinds k empty_s) there.0))
 
 pub loop-j-init : goal.loop-j-init
 loop-j-init c = (omega arith, any_none _)
@@ -23,30 +33,14 @@ pub overflow_add-standing : goal.overflow_add-standing
 overflow_add-standing c = omega (arith, c.wide-standing.ensures.1, c.wide.ensures.1, c.wide-in-loop-j.ensures.1)
 
 pub returns-then-full_set-standing : goal.returns-then-full_set-standing
-unfolding sets_size
 returns-then-full_set-standing c =
-    let j : ℕ = c.loop-j.j in
-    let sum : ℕ = c.wide-standing.result + (c.wide.result + c.wide-in-loop-j.result) in
-    let standing : c.wide-standing.result ≡ sets_size c.args.kinds j = let i = c.promoted_index in
-    c.wide-standing.ensures.0 ∙ c.count.ensures
-    ∙ ap size (c.or.ensures
-    ∙ ap₂ or_s (get_d_any c.args.kinds j _ empty_s (omega (arith, c.well_formed)))
-    (get_d_any c.args.kinds i.result _ empty_s (omega (arith, c.well_formed, i.ensures.1)) ∙ ap (λ (k : ℕ). get_or c.args.kinds k empty_s) i.ensures.0)) in
-    let yes-over : c.full_set.result < sum → over_by_sets c.args.kinds c.args.hands j ≡ true = over_yes c.args.kinds c.args.hands j _ _ _ _ standing c.wide.ensures.0 c.wide-in-loop-j.ensures.0 c.full_set.ensures in
-    sym (any_at _ j 7 (omega arith) (yes-over c.if-full_set-standing.true))
+    let here = standing c.args.kinds c.loop-j.j c.promoted_index.result _ _ _ _ _ (omega (arith, c.well_formed)) (omega arith) c.promoted_index.ensures c.or.ensures c.count.ensures c.wide-standing.ensures.0 in
+    sym (any_at _ c.loop-j.j 7 (omega arith) (over_yes c.args.kinds c.args.hands c.loop-j.j _ _ _ _ here c.wide.ensures.0 c.wide-in-loop-j.ensures.0 c.full_set.ensures c.if-full_set-standing.true))
 
 pub loop-j-preserved : goal.loop-j-preserved
-unfolding sets_size
 loop-j-preserved c =
-    let j : ℕ = c.loop-j.j in
-    let sum : ℕ = c.wide-standing.result + (c.wide.result + c.wide-in-loop-j.result) in
-    let standing : c.wide-standing.result ≡ sets_size c.args.kinds j = let i = c.promoted_index in
-    c.wide-standing.ensures.0 ∙ c.count.ensures
-    ∙ ap size (c.or.ensures
-    ∙ ap₂ or_s (get_d_any c.args.kinds j _ empty_s (omega (arith, c.well_formed)))
-    (get_d_any c.args.kinds i.result _ empty_s (omega (arith, c.well_formed, i.ensures.1)) ∙ ap (λ (k : ℕ). get_or c.args.kinds k empty_s) i.ensures.0)) in
-    let not-over : sum ≤ c.full_set.result → over_by_sets c.args.kinds c.args.hands j ≡ false = over_no c.args.kinds c.args.hands j _ _ _ _ standing c.wide.ensures.0 c.wide-in-loop-j.ensures.0 c.full_set.ensures in
-    (omega arith, any_more _ _ c.loop-j.invariant.1 (not-over c.if-full_set-standing.false))
+    let here = standing c.args.kinds c.loop-j.j c.promoted_index.result _ _ _ _ _ (omega (arith, c.well_formed)) (omega arith) c.promoted_index.ensures c.or.ensures c.count.ensures c.wide-standing.ensures.0 in
+    (omega arith, any_more _ _ c.loop-j.invariant.1 (over_no c.args.kinds c.args.hands c.loop-j.j _ _ _ _ here c.wide.ensures.0 c.wide-in-loop-j.ensures.0 c.full_set.ensures c.if-full_set-standing.false))
 
 pub returns : goal.returns
 returns c = let e : c.loop-j.j ≡ 7 = omega arith in sym (rw e at c.loop-j.invariant.1)

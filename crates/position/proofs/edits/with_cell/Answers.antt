@@ -1,7 +1,6 @@
 use mathlib.Core.Path.{sym, ◌∙◌}
 use mathlib.Core.Bool.{true≢false}
 use native.Mathlib.Omega.{arith}
-use Prim.Native.Nat.{◌≤◌}
 use Rattle.squares.proofs.Laws.{board_range}
 use Rattle.position.proofs.edits.with_cell.Goals as goal
 
@@ -9,14 +8,10 @@ pub returns-then-not-is_good : goal.returns-then-not-is_good
 returns-then-not-is_good c = λ o good. absurd (true≢false (sym o ∙ sym c.is_good.ensures ∙ c.if-not-is_good.true))
 
 pub overflow_sub-at : goal.overflow_sub-at
-overflow_sub-at c =
-    let range : (1 ≤ c.args.square) × (c.args.square ≤ 81) = board_range 9 _ (sym c.is_good.ensures ∙ c.if-not-is_good.false) in
-    range.0
+overflow_sub-at c = (board_range 9 _ (sym c.is_good.ensures ∙ c.if-not-is_good.false)).0
 
 pub bounds-board-at : goal.bounds-board-at
-bounds-board-at c =
-    let range : (1 ≤ c.args.square) × (c.args.square ≤ 81) = board_range 9 _ (sym c.is_good.ensures ∙ c.if-not-is_good.false) in
-    omega (arith, range)
+bounds-board-at c = omega (arith, board_range 9 _ (sym c.is_good.ensures ∙ c.if-not-is_good.false))
 
 pub returns : goal.returns
 returns c = λ o good. c.with_board.ensures good

@@ -1,8 +1,5 @@
-use Prim.Native.Nat.{ℕ}
 use mathlib.Core.Path.{◌≡◌, sym, ◌∙◌}
 use native.Mathlib.Omega.{arith}
-use lib.ListN.{length-map}
-use Rattle.position.specs.Sound.{disagrees}
 use Rattle.position.proofs.Agree.{any_none, any_more, any_at, disagrees_is}
 use Rattle.position.proofs.fault.kinds_differ.Goals as goal
 
@@ -11,18 +8,12 @@ loop-j-init c = (omega arith, any_none _)
 
 pub returns-then-unlike : goal.returns-then-unlike
 returns-then-unlike c =
-    let j : ℕ = c.loop-j.j in
-    let says : c.unlike.result ≡ disagrees c.args.sets c.args.mark c.args.n j = c.unlike.ensures
-    ∙ disagrees_is c.args.sets c.args.mark c.args.n j _
-    (omega (arith, length-map c.args.sets (Rattle.squares.specs.contracts.bitboard.Bitboard.the_type).to, c.well_formed)) in
-    sym (any_at _ j 14 (omega arith) (sym says ∙ c.if-unlike.true))
+    let says = c.unlike.ensures ∙ disagrees_is c.args.sets c.args.mark c.args.n c.loop-j.j _ (omega (arith, c.well_formed)) in
+    sym (any_at _ c.loop-j.j 14 (omega arith) (sym says ∙ c.if-unlike.true))
 
 pub loop-j-preserved : goal.loop-j-preserved
 loop-j-preserved c =
-    let j : ℕ = c.loop-j.j in
-    let says : c.unlike.result ≡ disagrees c.args.sets c.args.mark c.args.n j = c.unlike.ensures
-    ∙ disagrees_is c.args.sets c.args.mark c.args.n j _
-    (omega (arith, length-map c.args.sets (Rattle.squares.specs.contracts.bitboard.Bitboard.the_type).to, c.well_formed)) in
+    let says = c.unlike.ensures ∙ disagrees_is c.args.sets c.args.mark c.args.n c.loop-j.j _ (omega (arith, c.well_formed)) in
     (omega arith, any_more _ _ c.loop-j.invariant.1 (sym says ∙ c.if-unlike.false))
 
 pub returns : goal.returns

@@ -1,7 +1,7 @@
 use mathlib.Core.Path.{◌≡◌, sym, ◌∙◌}
 use native.Mathlib.Omega.{arith}
 use borrow.Author.Count.{below_more}
-use lib.ListN.{length, get_or, length-map}
+use lib.ListN.{get_or}
 use Rattle.squares.specs.Sets.{empty_s}
 use Rattle.position.proofs.Agree.{compared_all, compared_at, equal_at}
 use Rattle.position.proofs.tidy.same_kinds.Goals as goal
@@ -11,24 +11,18 @@ loop-j-init c = (omega arith, λ k h. absurd (omega arith))
 
 pub returns-then-not-is_exactly : goal.returns-then-not-is_exactly
 returns-then-not-is_exactly c =
-    let first : length c.args.stored ≡ 14 = omega (arith, length-map c.args.stored (Rattle.squares.specs.contracts.bitboard.Bitboard.the_type).to, c.well_formed) in
-    let second : length c.args.made ≡ 14 = omega (arith, length-map c.args.made (Rattle.squares.specs.contracts.bitboard.Bitboard.the_type).to, c.well_formed) in
-    compared_at c.args.stored c.args.made 14 first second c.requires c.loop-j.j _ _ (omega arith)
+    compared_at c.args.stored c.args.made 14 (omega (arith, c.well_formed)) (omega (arith, c.well_formed)) c.requires c.loop-j.j _ _ (omega arith)
     (sym c.is_exactly.ensures ∙ c.if-not-is_exactly.true)
 
 pub loop-j-preserved : goal.loop-j-preserved
 loop-j-preserved c =
-    let first : length c.args.stored ≡ 14 = omega (arith, length-map c.args.stored (Rattle.squares.specs.contracts.bitboard.Bitboard.the_type).to, c.well_formed) in
-    let second : length c.args.made ≡ 14 = omega (arith, length-map c.args.made (Rattle.squares.specs.contracts.bitboard.Bitboard.the_type).to, c.well_formed) in
     let l = c.loop-j in (
       omega arith,
-      below_more (λ k. get_or c.args.stored k empty_s ≡ get_or c.args.made k empty_s) l.j l.invariant.1 (equal_at c.args.stored c.args.made 14 first second c.requires l.j _ _ (omega arith)
+      below_more (λ k. get_or c.args.stored k empty_s ≡ get_or c.args.made k empty_s) l.j l.invariant.1 (equal_at c.args.stored c.args.made 14 (omega (arith, c.well_formed)) (omega (arith, c.well_formed)) c.requires l.j _ _ (omega arith)
           (sym c.is_exactly.ensures ∙ c.if-not-is_exactly.false)),
     )
 
 pub returns : goal.returns
 returns c =
-    let first : length c.args.stored ≡ 14 = omega (arith, length-map c.args.stored (Rattle.squares.specs.contracts.bitboard.Bitboard.the_type).to, c.well_formed) in
-    let second : length c.args.made ≡ 14 = omega (arith, length-map c.args.made (Rattle.squares.specs.contracts.bitboard.Bitboard.the_type).to, c.well_formed) in
     let e : c.loop-j.j ≡ 14 = omega arith in
-    compared_all c.args.stored c.args.made 14 first second c.requires (λ j h. c.loop-j.invariant.1 j (omega arith))
+    compared_all c.args.stored c.args.made 14 (omega (arith, c.well_formed)) (omega (arith, c.well_formed)) c.requires (λ j h. c.loop-j.invariant.1 j (omega arith))

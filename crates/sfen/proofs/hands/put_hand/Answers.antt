@@ -1,13 +1,12 @@
 use Prim.Native.Nat.{ℕ, ◌+◌, ◌-◌, ◌*◌}
-use mathlib.Core.List.{List, ◌++◌}
+use mathlib.Core.List.{List}
 use native.Mathlib.Omega.{arith}
 use lib.Dec.{lit≤}
 use lib.ListN.{get_or}
 use Rattle.position.specs.Answers.{hand_at}
-use Rattle.sfen.specs.Text.{shogi, letter_of, count_text, hand_text}
-use Rattle.sfen.specs.Inner.{Owes}
+use Rattle.sfen.specs.Text.{letter_of, count_text}
 use Rattle.sfen.proofs.Lines.{room_first, owes_all, owes_less, owes_none, owes_room}
-use Rattle.sfen.proofs.Cases.{hand_left, hand_all, hand-none, hand_less}
+use Rattle.sfen.proofs.Cases.{hand_all, hand-none, hand_less}
 use Rattle.sfen.proofs.hands.put_hand.Goals as goal
 
 -- in a turn: the count of a kind, and those of the kinds below it, are still to be written

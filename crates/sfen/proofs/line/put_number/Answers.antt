@@ -2,7 +2,7 @@ use Prim.Native.Nat.{ℕ, ◌+◌, ◌%◌}
 use mathlib.Core.List.{List, [], ◌∷◌, ◌++◌}
 use native.Mathlib.Omega.{arith}
 use lib.Dec.{lit≤}
-use Rattle.sfen.specs.Inner.{Room, place}
+use Rattle.sfen.specs.Inner.{place}
 use Rattle.sfen.proofs.Lines.{puts_append, room_first, ◌▸◌}
 use Rattle.sfen.proofs.Cases.{number_places}
 use Rattle.sfen.proofs.line.put_number.Goals as goal

@@ -1,7 +1,5 @@
-use Prim.Native.Nat.{ℕ}
-use mathlib.Core.List.{List, [], ◌∷◌, ◌++◌}
-use Rattle.sfen.specs.Text.{shogi, board_text, side_byte, hands_text, number_text}
-use Rattle.sfen.specs.Inner.{Room}
+use mathlib.Core.List.{[], ◌∷◌}
+use Rattle.sfen.specs.Text.{shogi, board_text, side_byte, hands_text}
 use Rattle.sfen.proofs.Lines.{puts_append, room_first, ◌▸◌}
 use Rattle.sfen.proofs.Cases.{text_parts}
 use Rattle.sfen.proofs.write.put_text.Goals as goal

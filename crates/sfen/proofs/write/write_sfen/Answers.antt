@@ -1,9 +1,7 @@
 use Prim.Native.Nat.{◌≤◌}
 use mathlib.Core.Path.{◌≡◌, refl}
-use mathlib.Core.Bool.{true}
 use native.Mathlib.Omega.{arith}
 use lib.ListN.{length, take}
-use Rattle.position.specs.Sound.{sound}
 use Rattle.position.proofs.Laws.{Sized, sized}
 use Rattle.sfen.specs.Text.{position_text}
 use Rattle.sfen.proofs.Bound.{text_bound}
