@@ -6,8 +6,8 @@
  *
  * The archive (`rt lib --cpu x86-64` in crates/firmware) is code for x86-64, with the calling convention of Linux there. It needs two
  * functions of its host, memcpy and memset, keeps nothing between calls, and may run freestanding. Of stack a call takes up to 3.8 kB, as
- * measured: keep 4 kB free. It uses the SSE registers: a kernel or an interrupt handler that makes a call must have SSE enabled, and save and restore
- * those registers.
+ * measured: keep 4 kB free. It uses the SSE registers: a kernel or an interrupt handler that makes a call must have SSE enabled, and save
+ * and restore those registers.
  *
  * What the host owes, and nothing can check: a pointer to a position is not null, is aligned as its type, and points to a whole
  * position that no other part of the program writes during the call (nor reads, where the call changes it). The same holds of a lent buffer
