@@ -1,6 +1,6 @@
 -- One file's nine bits in a word, and back.
-use Rattle.std.proofs.Common.{◌≡◌, ℕ, ◌+◌, ◌-◌, ◌*◌, ◌/◌, ◌%◌, ◌^◌, ◌<◌, ◌≤◌, Bool, false, ◌&&◌, eqb, sym, ap, ◌∙◌, subst, ⊎_elim, lt_of_lt_of_le, mod-lt, arith, pow_pos, pow_mono, shl_lt, shl_exact, le-ltb, lt-ltb, eq-eqb, ne_eqb, le-leb}
-use mathlib.Core.Bool.{and-false}
+use Rattle.std.proofs.Common.{◌≡◌, ℕ, ◌+◌, ◌-◌, ◌*◌, ◌/◌, ◌%◌, ◌^◌, ◌<◌, ◌≤◌, Bool, false, ◌&&◌, eqb, ltb, ltb-true, sym, ap, ◌∙◌, subst, ⊎_elim, lt_of_lt_of_le, mod-lt, arith, pow_pos, pow_mono, shl_lt, shl_exact, lt-ltb, eq-eqb, ne_eqb, le-leb}
+use Rattle.std.proofs.lemmas.Bool.{false_from_ne_true}
 use borrow.Author.Tests.{lt-leb}
 use Rattle.squares.specs.Bit.{bit, word}
 use Rattle.squares.specs.Board.{on_side, file_of, rank_of}
@@ -9,7 +9,7 @@ use Rattle.squares.specs.Answers.{from_file_answer, get_file_answer}
 use Rattle.squares.specs.declared.bitboard.Bitboard.{Bitboard}
 use Rattle.squares.proofs.Bits.{bit_shl, bit_shr, bit_mod, bit_high, bit-of-zero, bit_ext, word_lt, bit_word}
 use Rattle.squares.proofs.Members.{has_lo, has_hi, is_set, le-or-lt}
-use Rattle.squares.proofs.Steps.{side_on, eqb_same}
+use Rattle.squares.proofs.Steps.{both, side_on, side_range, eqb_same}
 
 -- nine digits p, g files up
 module _ (p g : ℕ) (hp : p < 512) (hg : g ≤ 6) where
@@ -94,13 +94,14 @@ pub file-good : (f p : ℕ) {r : Bitboard} → 1 ≤ f → f < 10 → p ≤ 511 
 unfolding from_file_answer
 file-good f p l h hp e = rw (e, side_on 9 f l (omega arith), lt-ltb p 512 (omega arith))
 
-pub file_bad : (f p : ℕ) → on_side 9 f ≡ false → record { number = 2; set = empty_s } ≡ from_file_answer f p
+pub file_bad : (f p : ℕ) → (1 ≤ f → f ≤ 9 → p ≤ 511 → ⊥) → record { number = 2; set = empty_s } ≡ from_file_answer f p
 unfolding from_file_answer
-file_bad f p e = rw e
-
-pub file_bad_pattern : (f p : ℕ) → 511 < p → record { number = 2; set = empty_s } ≡ from_file_answer f p
-unfolding from_file_answer
-file_bad_pattern f p hp = rw (le-ltb p 512 hp, and-false)
+file_bad f p bad =
+    rw (false_from_ne_true _ (λ e.
+    let t = both (on_side 9 f) (ltb p 512) e in
+    let r = side_range 9 f t.0 in
+    let l = ltb-true p 512 t.1 in
+    bad r.0 r.1 (omega arith)))
 
 pub pattern_good : (s : Bitboard) (f : ℕ) {r : ℕ} → 1 ≤ f → f < 10 → r ≡ pattern_of s f → record { number = 0; value = r } ≡ get_file_answer s f
 unfolding get_file_answer

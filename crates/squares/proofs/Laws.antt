@@ -4,7 +4,10 @@ use Rattle.std.proofs.Common.{◌≡◌, ℕ, zero, suc, ◌+◌, ◌^◌, ◌<�
 use mathlib.Core.Bool.{beq}
 use Rattle.squares.specs.Board.{on_board, flip_to, opposite, step}
 use Rattle.squares.specs.Sets.{has, set_of, empty_s, single_s, or_s, and_s, xor_s, andnot_s, not_s, flip_s, without_s, shift_s}
-use Rattle.squares.specs.Answers.{SetValue, TruthValue, set_if, truth_if, single_answer, contains_answer, NumberValue, FormValue, number_if, form_if, unpromoted_answer, limit_answer, letter_answer, promoted_answer, hand_kind_answer, promoted_piece_answer}
+use Rattle.std.specs.Prelude.{Option, Some, None, Result, Ok, Err, is_some, unwrap_or}
+use Rattle.std.specs.Result.{result_unwrap_or}
+use Rattle.squares.specs.declared.bad_number.BadNumber.{BadNumber}
+use Rattle.squares.specs.Answers.{number_given, form_given, set_given, truth_given, SetValue, TruthValue, set_if, truth_if, single_answer, contains_answer, NumberValue, FormValue, number_if, form_if, unpromoted_answer, limit_answer, letter_answer, promoted_answer, hand_kind_answer, promoted_piece_answer}
 use Rattle.squares.specs.Kinds.{good_kind, kind_row, hand_kind, good_piece, promoted_piece}
 use Rattle.squares.specs.declared.bitboard.Bitboard.{Bitboard}
 use Rattle.squares.specs.declared.bitboard.Direction.{Direction}
@@ -26,7 +29,7 @@ pub use Rattle.squares.proofs.Numbers.{piece-low, piece_gap, piece-high, piece_b
 pub use Rattle.squares.proofs.Numbers.{black_kind, white_kind, black_colour, white_colour, empty_colour, bad_cells, good-cells}
 pub use Rattle.squares.proofs.Numbers.{piece-small, piece_by, other_good, no-promoted, no-held, held_small, limit-small}
 pub use Rattle.squares.proofs.Marked.{squares, marked-sets}
-pub use Rattle.squares.proofs.Unique.{one_number, one_form, one_set, one_truth, one_pattern, one_pop}
+pub use Rattle.squares.proofs.Unique.{one_number, one_form, one_set, one_truth, one_pop, one_marks, refused, told-good, told-bad}
 
 -- ---- the members of each operation's set
 within : (g : Bool → Bool → Bool) → g false false ≡ false → (a b : Bitboard) (n : ℕ) → on_board 9 n && g (has a n) (has b n) ≡ g (has a n) (has b n)
@@ -130,6 +133,28 @@ form-some : (good : Bool) (w : ℕ) (x : FormValue) → x ≡ form_if good w →
 form-some true zero x q f = absurd (true≢false (sym f ∙ ap (λ (y : FormValue). y.found) q))
 form-some true (suc w) x q f = omega arith
 form-some false w x q f = absurd (true≢false (sym f ∙ ap (λ (y : FormValue). y.found) q))
+
+-- ---- an answer read with 0, no, the empty set or nothing in a refusal's place
+pub number-or : (r : Result ℕ BadNumber) → result_unwrap_or r 0 ≡ (number_given r).value
+number-or (Ok v) = refl
+number-or (Err e) = refl
+
+pub truth-or : (r : Result Bool BadNumber) → result_unwrap_or r false ≡ (truth_given r).truth
+truth-or (Ok b) = refl
+truth-or (Err e) = refl
+
+pub set-or : (r : Result Bitboard BadNumber) → result_unwrap_or r empty_s ≡ (set_given r).set
+set-or (Ok s) = refl
+set-or (Err e) = refl
+
+pub form-or : (r : Result (Option ℕ) BadNumber) → unwrap_or (result_unwrap_or r None) 0 ≡ (form_given r).value
+form-or (Ok (Some v)) = refl
+form-or (Ok None) = refl
+form-or (Err e) = refl
+
+pub form-found : (r : Result (Option ℕ) BadNumber) {v : ℕ} → result_unwrap_or r None ≡ Some v → form_given r ≡ record { number = 0; found = true; value = v }
+form-found (Ok o) e = rw e
+form-found (Err f) e = absurd (true≢false (sym (ap is_some e)))
 
 module _ (k : ℕ) where
   pub unpromoted-value : (x : NumberValue) → x ≡ unpromoted_answer k → x.value ≡ (kind_row k).unpromoted

@@ -109,14 +109,18 @@ unfolding pop_answer is_empty size smallest without_s
 pop_cong r s e =
     ap (λ (f : ℕ → Bool). record { number = 0; found = not (eqb (count_of f 1 81) 0); square = first_of f 1 81; set = set_of (λ m. f m && not (eqb m (first_of f 1 81))) }) e
 
-module _ (x y w : ℕ) (hw : w < 2 ^ 64) (e : (w + 1) % 2 ^ 64 ≡ x) where
+-- one less, with wrap
+abbrev less-one : ℕ → ℕ
+less-one x = (x + 0xffff_ffff_ffff_ffff) % 2 ^ 64
+
+module _ (x y : ℕ) where
   pub pop_lo : x < 2 ^ 63 → y < 2 ^ 18 → 0 < x
-      → record { number = 0; found = true; square = count_trailing_zeros 64 x + 1; set = record { lo = bit_and x w; hi = y } } ≡ pop_answer (record { lo = x; hi = y })
+      → record { number = 0; found = true; square = count_trailing_zeros 64 x + 1; set = record { lo = bit_and x (less-one x); hi = y } } ≡ pop_answer (record { lo = x; hi = y })
   unfolding without_s
   pop_lo hx hy p =
       let s : Bitboard = record { lo = x; hi = y } in
       let t : ℕ = count_trailing_zeros 64 x in
-      let v : w ≡ x - 1 = omega arith in
+      let v : less-one x ≡ x - 1 = omega arith in
       let h64 : x < 2 ^ 64 = omega arith in
       let f = word_first s 1 63 x (omega arith) (omega arith) p hx h64 (has_lo s) (has-zero s) in
       let u : t < 63 = low-within 63 x t (lowest 64 x p h64) hx in
@@ -130,14 +134,14 @@ none-low : (y m : ℕ) → m < 64 → has (record { lo = 0; hi = y }) m ≡ fals
 none-low y zero h = has-zero (record { lo = 0; hi = y }) 0 (omega arith)
 none-low y (suc m) h = ap (has (record { lo = 0; hi = y })) (sym (one-add m)) ∙ has_lo (record { lo = 0; hi = y }) m (omega arith) ∙ bit-of-zero m
 
-module _ (y w : ℕ) (hw : w < 2 ^ 64) (e : (w + 1) % 2 ^ 64 ≡ y) where
+module _ (y : ℕ) where
   pub pop_hi : y < 2 ^ 18 → 0 < y
-      → record { number = 0; found = true; square = count_trailing_zeros 64 y + 64; set = record { lo = 0; hi = bit_and y w } } ≡ pop_answer (record { lo = 0; hi = y })
+      → record { number = 0; found = true; square = count_trailing_zeros 64 y + 64; set = record { lo = 0; hi = bit_and y (less-one y) } } ≡ pop_answer (record { lo = 0; hi = y })
   unfolding without_s
   pop_hi hy p =
       let s : Bitboard = record { lo = 0; hi = y } in
       let t : ℕ = count_trailing_zeros 64 y in
-      let v : w ≡ y - 1 = omega arith in
+      let v : less-one y ≡ y - 1 = omega arith in
       let h64 : y < 2 ^ 64 = omega arith in
       let low : (m : ℕ) → m < 64 → has s m ≡ false = none-low y in
       let f = word_first s 64 18 y (omega arith) (omega arith) p hy h64 (has_hi s) low in

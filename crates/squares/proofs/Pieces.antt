@@ -1,9 +1,8 @@
 -- A piece's promoted and unpromoted form are those of its kind, the colour kept: 16 is what White's number has more.
-use Rattle.std.proofs.Common.{◌≡◌, ℕ, ◌+◌, ◌-◌, ◌%◌, ◌<◌, ◌≤◌, false, cond, T, eqb, leb, sym, ap, ◌∙◌, zero-le, mod-lt, arith, lit<, leb→le}
+use Rattle.std.proofs.Common.{◌≡◌, ℕ, ◌+◌, ◌-◌, ◌%◌, ◌<◌, ◌≤◌, false, cond, T, Option, Result, eqb, leb, sym, ap, ◌∙◌, zero-le, mod-lt, arith, lit<, leb→le}
 use Rattle.squares.specs.Kinds.{good_kind, kind_row, kinds, piece_of, colour_of, kind_of, good_piece, promoted_piece, unpromoted_piece}
 use Rattle.squares.specs.Answers.{NumberValue, FormValue, number_given, form_given, promoted_answer, unpromoted_answer, promoted_piece_answer, unpromoted_piece_answer}
-use Rattle.squares.specs.declared.answers.NumberAnswer.{NumberAnswer}
-use Rattle.squares.specs.declared.answers.FormAnswer.{FormAnswer}
+use Rattle.squares.specs.declared.bad_number.BadNumber.{BadNumber}
 use Rattle.squares.proofs.Numbers.{piece-high}
 use Rattle.squares.proofs.Tests.{all, all_at, rows_number, rows_form}
 
@@ -19,7 +18,7 @@ few : (f : ℕ → ℕ) → T (all (λ k. leb (f k) 14) 16) → (c v : ℕ) → 
 few f t c v h e = let l = leb→le (f (c % 16)) 14 (all_at (λ k. leb (f k) 14) 16 t (c % 16) (mod-lt c (lit< tt))) in omega (arith, e, l)
 
 -- the kind's call told b
-module _ (c : ℕ) {a b : FormAnswer} (h : c ≤ 31) (e : a ≡ b) (q : form_given a ≡ promoted_answer (c % 16)) where
+module _ (c : ℕ) {a b : Result (Option ℕ) BadNumber} (h : c ≤ 31) (e : a ≡ b) (q : form_given a ≡ promoted_answer (c % 16)) where
   told : form_given b ≡ promoted_answer (c % 16)
   told = ap form_given (sym e) ∙ q
 
@@ -35,7 +34,7 @@ pub promoted_bad : (c : ℕ) → 31 < c → record { number = 2; found = false; 
 unfolding promoted_piece_answer
 promoted_bad c h = rw (piece-high c (omega arith))
 
-module _ (c : ℕ) {a b : NumberAnswer} (h : c ≤ 31) (e : a ≡ b) (q : number_given a ≡ unpromoted_answer (c % 16)) where
+module _ (c : ℕ) {a b : Result ℕ BadNumber} (h : c ≤ 31) (e : a ≡ b) (q : number_given a ≡ unpromoted_answer (c % 16)) where
   number_told : number_given b ≡ unpromoted_answer (c % 16)
   number_told = ap number_given (sym e) ∙ q
 

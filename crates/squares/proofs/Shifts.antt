@@ -1,18 +1,20 @@
 -- The words of a shifted set, for each of the four bodies and every distance.
-use Rattle.std.proofs.Common.{◌≡◌, ℕ, ◌+◌, ◌-◌, ◌*◌, ◌/◌, ◌%◌, ◌^◌, ◌<◌, ◌≤◌, Bool, false, ◌&&◌, ◌||◌, ltb, leb, sym, ap, ◌∙◌, ap₂, ⊎_elim, arith, leb→le, le-ltb, lt-ltb, le-leb}
+use Rattle.std.proofs.Common.{◌≡◌, ℕ, Result, Ok, Err, IsErr, leb-true, ◌+◌, ◌-◌, ◌*◌, ◌/◌, ◌%◌, ◌^◌, ◌<◌, ◌≤◌, Bool, false, ◌&&◌, ◌||◌, ltb, leb, sym, ap, ◌∙◌, ap₂, ⊎_elim, arith, leb→le, le-ltb, lt-ltb, le-leb}
 use mathlib.Core.Bool.{beq, and-true, and-false, or-false}
 use lib.Bits.{bit_and, bit_or, mask_lt}
 use borrow.Author.Tests.{lt-leb}
 use Rattle.squares.specs.Bit.{odd, bit}
 use Rattle.squares.specs.Board.{on_side, file_of, rank_of, square_at, file_step, rank_step, opposite, step}
-use Rattle.squares.specs.Sets.{has, set_of, empty_s, shift_s}
-use Rattle.squares.specs.Answers.{SetValue, shift_answer}
+use Rattle.squares.specs.Sets.{has, set_of, shift_s}
+use Rattle.squares.specs.Answers.{SetValue, number_if, number_given, set_given, shift_answer}
+use Rattle.squares.specs.declared.bad_number.BadNumber.{BadNumber}
 use Rattle.squares.specs.declared.bitboard.Bitboard.{Bitboard}
 use Rattle.squares.specs.declared.bitboard.Direction.{Direction}
 use Rattle.squares.specs.declared.bitboard.Direction.TheVariants.{Down, Up, Left, Right}
 use Rattle.squares.proofs.Bits.{bit-and, bit-or, bit_shl64, bit_shr, bit_high, bit-of-zero}
 use Rattle.squares.proofs.Steps.{board_on, board-zero, side_on, side_low, side_high, at_on, at_off}
 use Rattle.squares.proofs.Members.{has_lo, has_hi, has_off, has_masked, cleaned, by_words, le-or-lt}
+use Rattle.squares.proofs.Unique.{told-good, set-passed}
 use Rattle.squares.proofs.Tests.{all, all_at, beq_eq}
 
 -- ---- the answer to a good and to a bad distance
@@ -20,13 +22,18 @@ shift-good : (dir : Direction) (d : ℕ) (s : Bitboard) → d ≤ 9 → record {
 unfolding shift_answer
 shift-good dir d s h = rw (le-leb d 9 h)
 
-pub shift_bad : (dir : Direction) (d : ℕ) (s : Bitboard) → 9 < d → record { number = 2; set = empty_s } ≡ shift_answer dir d s
-unfolding shift_answer
-shift_bad dir d s h = rw (lt-leb d 9 h)
+-- what the distance says of it
+module _ (d : ℕ) (r : Result ℕ BadNumber) (q : number_given r ≡ number_if (leb d 9) d) where
+  pub shift_bad : (dir : Direction) (s : Bitboard) (t : Result Bitboard BadNumber) {e : BadNumber} → r ≡ Err e → IsErr t → set_given t ≡ shift_answer dir d s
+  unfolding shift_answer
+  shift_bad dir s t e h = set-passed _ _ r q _ t e h
 
--- the answer of the direction that is told
-pub shift_told : {dir told : Direction} {v : SetValue} (d : ℕ) (s : Bitboard) → dir ≡ told → v ≡ shift_answer told d s → v ≡ shift_answer dir d s
-shift_told d s e q = q ∙ ap (λ (x : Direction). shift_answer x d s) (sym e)
+  pub near : {x : ℕ} → r ≡ Ok x → (x ≤ 9) × (x ≡ d)
+  near e = let t = told-good _ _ r q e in let l = leb-true d 9 t.0 in (omega (arith, t.1), t.1)
+
+  -- the answer of the distance that is told
+  pub moved : {x : ℕ} (dir : Direction) (s : Bitboard) {v : SetValue} → r ≡ Ok x → (x ≤ 9 → v ≡ shift_answer dir x s) → v ≡ shift_answer dir d s
+  moved dir s e f = let n = near e in f n.0 ∙ ap (λ (k : ℕ). shift_answer dir k s) n.1
 
 -- the stray bits make no difference
 shifted : (dir : Direction) (d : ℕ) (s : Bitboard) {r : Bitboard} → d ≤ 9 → r ≡ shift_s dir d (cleaned s) → record { number = 0; set = r } ≡ shift_answer dir d s

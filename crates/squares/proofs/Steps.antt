@@ -2,6 +2,7 @@
 -- and long steps leave the board.
 use Rattle.std.proofs.Common.{◌≡◌, ℕ, zero, suc, ◌+◌, ◌-◌, ◌*◌, ◌/◌, ◌%◌, ◌<◌, ◌≤◌, Bool, true, false, cond, ◌&&◌, eqb, leb, ◌⊎◌, sym, refl, ap, ◌∙◌, ap₂, inl, inr, ⊎_elim, mod-lt, mul_comm, div-lt_iff_lt-mul, mul-suc, arith, eq-eqb, ne_eqb, le-leb, leb-true}
 use mathlib.Core.Bool.{false≢true}
+use Rattle.std.proofs.lemmas.Bool.{false_from_ne_true}
 use native.Mathlib.Nat.{div-add-mod}
 use native.Mathlib.Decide.{ℕ_discrete}
 use lib.Arith.{digits_div, digits_mod, digits_lt}
@@ -46,6 +47,15 @@ side_low w k h = rw (lt-leb 1 k h)
 pub side_high : (w k : ℕ) → 1 ≤ k → w < k → on_side w k ≡ false
 unfolding on_side
 side_high w k l h = rw (le-leb 1 k l, lt-leb k w h)
+
+-- not both are good
+pub sides_off : (w f r : ℕ) → (1 ≤ f → f ≤ w → 1 ≤ r → r ≤ w → ⊥) → on_side w f && on_side w r ≡ false
+sides_off w f r bad =
+    false_from_ne_true _ (λ e.
+    let t = both (on_side w f) (on_side w r) e in
+    let a = side_range w f t.0 in
+    let b = side_range w r t.1 in
+    bad a.0 a.1 b.0 b.1)
 
 pub board_range : (w n : ℕ) → on_board w n ≡ true → (1 ≤ n) × (n ≤ w * w)
 unfolding on_board

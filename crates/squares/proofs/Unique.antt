@@ -1,61 +1,82 @@
 -- Any two results that a promise allows are equal: an answer is determined by document 01's number and values. (Where a
 -- promise says `r ≡ definition` there is nothing to show.)
-use Rattle.std.proofs.Common.{◌≡◌, ℕ, sym, refl, ap, ap₂, true≢false, arith}
+use Rattle.std.proofs.Common.{◌≡◌, ℕ, Bool, true, false, cond, Option, Some, None, Result, Ok, Err, IsErr, sym, refl, ap, ap₂, ◌∙◌, true≢false, arith}
 use mathlib.Core.Bool.{false≢true}
-use Rattle.squares.specs.Answers.{NumberValue, FormValue, SetValue, TruthValue, PopValue, number_given, form_given, set_given, truth_given, pattern_given, pop_given}
-use Rattle.squares.specs.declared.answers.NumberAnswer.{NumberAnswer}
-use Rattle.squares.specs.declared.answers.NumberAnswer.TheVariants as Number
-use Rattle.squares.specs.declared.answers.FormAnswer.{FormAnswer}
-use Rattle.squares.specs.declared.answers.FormAnswer.TheVariants as Form
-use Rattle.squares.specs.declared.answers.SetAnswer.{SetAnswer}
-use Rattle.squares.specs.declared.answers.SetAnswer.TheVariants as Set
-use Rattle.squares.specs.declared.answers.TruthAnswer.{TruthAnswer}
-use Rattle.squares.specs.declared.answers.TruthAnswer.TheVariants as Truth
-use Rattle.squares.specs.declared.answers.PatternAnswer.{PatternAnswer}
-use Rattle.squares.specs.declared.answers.PatternAnswer.TheVariants as Pattern
-use Rattle.squares.specs.declared.answers.PopAnswer.{PopAnswer}
-use Rattle.squares.specs.declared.answers.PopAnswer.TheVariants as Pop
+use Rattle.squares.specs.Answers.{NumberValue, FormValue, PopValue, number_if, set_if, number_given, form_given, set_given, truth_given, pop_given, marks_given}
+use Rattle.squares.specs.declared.bad_number.BadNumber.{BadNumber}
+use Rattle.squares.specs.declared.bitboard.Bitboard.{Bitboard}
+use Rattle.squares.specs.declared.marks.Marks.{Marks}
 
 differ : ◌≡◌ {A = ℕ} 0 2 → ⊥
 differ e = omega arith
 
-pub one_number : (a b : NumberAnswer) → number_given a ≡ number_given b → a ≡ b
-one_number (Number.Number s) (Number.Number t) e = ap Number.Number (ap (λ (v : NumberValue). v.value) e)
-one_number (Number.Number s) Number.BadNumber e = absurd (differ (ap (λ (v : NumberValue). v.number) e))
-one_number Number.BadNumber (Number.Number t) e = absurd (differ (sym (ap (λ (v : NumberValue). v.number) e)))
-one_number Number.BadNumber Number.BadNumber e = refl
+-- what an answer says has 0 and the value, or 2
+module _ {A V : Type 0} (given : Result A BadNumber → V) (number : V → ℕ) (value : V → A)
+    (ok : (x : A) → number (given (Ok x)) ≡ 0) (bad : (e : BadNumber) → number (given (Err e)) ≡ 2)
+    (back : (x : A) → value (given (Ok x)) ≡ x) where
+  one_answer : (a b : Result A BadNumber) → given a ≡ given b → a ≡ b
+  one_answer (Ok s) (Ok t) e = ap Ok (sym (back s) ∙ ap value e ∙ back t)
+  one_answer (Ok s) (Err f) e = absurd (differ (sym (ok s) ∙ ap number e ∙ bad f))
+  one_answer (Err f) (Ok t) e = absurd (differ (sym (ok t) ∙ ap number (sym e) ∙ bad f))
+  one_answer (Err f) (Err g) e = refl
 
-pub one_form : (a b : FormAnswer) → form_given a ≡ form_given b → a ≡ b
-one_form (Form.Form s) (Form.Form t) e = ap Form.Form (ap (λ (v : FormValue). v.value) e)
-one_form (Form.Form s) Form.Nothing e = absurd (true≢false (ap (λ (v : FormValue). v.found) e))
-one_form (Form.Form s) Form.BadNumber e = absurd (differ (ap (λ (v : FormValue). v.number) e))
-one_form Form.Nothing (Form.Form t) e = absurd (false≢true (ap (λ (v : FormValue). v.found) e))
-one_form Form.Nothing Form.Nothing e = refl
-one_form Form.Nothing Form.BadNumber e = absurd (differ (ap (λ (v : FormValue). v.number) e))
-one_form Form.BadNumber (Form.Form t) e = absurd (differ (sym (ap (λ (v : FormValue). v.number) e)))
-one_form Form.BadNumber Form.Nothing e = absurd (differ (sym (ap (λ (v : FormValue). v.number) e)))
-one_form Form.BadNumber Form.BadNumber e = refl
+pub one_number : (a b : Result ℕ BadNumber) → number_given a ≡ number_given b → a ≡ b
+one_number = one_answer number_given (λ v. v.number) (λ v. v.value) (λ x. refl) (λ e. refl) (λ x. refl)
 
-pub one_set : (a b : SetAnswer) → set_given a ≡ set_given b → a ≡ b
-one_set (Set.Set s) (Set.Set t) e = ap Set.Set (ap (λ (v : SetValue). v.set) e)
-one_set (Set.Set s) Set.BadNumber e = absurd (differ (ap (λ (v : SetValue). v.number) e))
-one_set Set.BadNumber (Set.Set t) e = absurd (differ (sym (ap (λ (v : SetValue). v.number) e)))
-one_set Set.BadNumber Set.BadNumber e = refl
+abbrev form_back : FormValue → Option ℕ
+form_back v = cond v.found (Some v.value) None
 
-pub one_truth : (a b : TruthAnswer) → truth_given a ≡ truth_given b → a ≡ b
-one_truth (Truth.Truth s) (Truth.Truth t) e = ap Truth.Truth (ap (λ (v : TruthValue). v.truth) e)
-one_truth (Truth.Truth s) Truth.BadNumber e = absurd (differ (ap (λ (v : TruthValue). v.number) e))
-one_truth Truth.BadNumber (Truth.Truth t) e = absurd (differ (sym (ap (λ (v : TruthValue). v.number) e)))
-one_truth Truth.BadNumber Truth.BadNumber e = refl
+pub one_form : (a b : Result (Option ℕ) BadNumber) → form_given a ≡ form_given b → a ≡ b
+one_form = one_answer form_given (λ v. v.number) form_back ok (λ e. refl) back
+  where
+    ok : (x : Option ℕ) → (form_given (Ok x)).number ≡ 0
+    ok (Some v) = refl
+    ok None = refl
 
-pub one_pattern : (a b : PatternAnswer) → pattern_given a ≡ pattern_given b → a ≡ b
-one_pattern (Pattern.Pattern s) (Pattern.Pattern t) e = ap Pattern.Pattern (ap (λ (v : NumberValue). v.value) e)
-one_pattern (Pattern.Pattern s) Pattern.BadNumber e = absurd (differ (ap (λ (v : NumberValue). v.number) e))
-one_pattern Pattern.BadNumber (Pattern.Pattern t) e = absurd (differ (sym (ap (λ (v : NumberValue). v.number) e)))
-one_pattern Pattern.BadNumber Pattern.BadNumber e = refl
+    back : (x : Option ℕ) → form_back (form_given (Ok x)) ≡ x
+    back (Some v) = refl
+    back None = refl
 
-pub one_pop : (a b : PopAnswer) → pop_given a ≡ pop_given b → a ≡ b
-one_pop (Pop.Square n s) (Pop.Square m t) e = ap₂ Pop.Square (ap (λ (v : PopValue). v.square) e) (ap (λ (v : PopValue). v.set) e)
-one_pop (Pop.Square n s) Pop.Nothing e = absurd (true≢false (ap (λ (v : PopValue). v.found) e))
-one_pop Pop.Nothing (Pop.Square m t) e = absurd (false≢true (ap (λ (v : PopValue). v.found) e))
-one_pop Pop.Nothing Pop.Nothing e = refl
+pub one_set : (a b : Result Bitboard BadNumber) → set_given a ≡ set_given b → a ≡ b
+one_set = one_answer set_given (λ v. v.number) (λ v. v.set) (λ x. refl) (λ e. refl) (λ x. refl)
+
+pub one_truth : (a b : Result Bool BadNumber) → truth_given a ≡ truth_given b → a ≡ b
+one_truth = one_answer truth_given (λ v. v.number) (λ v. v.truth) (λ x. refl) (λ e. refl) (λ x. refl)
+
+pub one_marks : (a b : Result Marks BadNumber) → marks_given a ≡ marks_given b → a ≡ b
+one_marks = one_answer marks_given (λ v. v.number) (λ v. record { players = v.players; kinds = v.kinds }) (λ x. refl) (λ e. refl) (λ x. refl)
+
+-- there is one refusal
+pub refused : {A : Type 0} (r : Result A BadNumber) → IsErr r → r ≡ Err (record {})
+refused (Ok x) h = absurd (false≢true h)
+refused (Err e) h = refl
+
+-- ---- what a number told, or refused, says of the test that it passed, or not
+module _ (good : Bool) (w : ℕ) (r : Result ℕ BadNumber) (q : number_given r ≡ number_if good w) where
+  pub told-good : {x : ℕ} → r ≡ Ok x → (good ≡ true) × (x ≡ w)
+  told-good e = at good (ap number_given (sym e) ∙ q)
+    where
+      at : {x : ℕ} (g : Bool) → number_given (Ok x) ≡ number_if g w → (g ≡ true) × (x ≡ w)
+      at true p = (refl, ap (λ (v : NumberValue). v.value) p)
+      at false p = absurd (differ (ap (λ (v : NumberValue). v.number) p))
+
+  pub told-bad : {e : BadNumber} → r ≡ Err e → good ≡ false
+  told-bad e = at good (ap number_given (sym e) ∙ q)
+    where
+      at : {e : BadNumber} (g : Bool) → number_given (Err e) ≡ number_if g w → g ≡ false
+      at true p = absurd (differ (sym (ap (λ (v : NumberValue). v.number) p)))
+      at false p = refl
+
+  -- a number that passes its refusal on
+  pub number-passed : (v : ℕ) (s : Result ℕ BadNumber) {e : BadNumber} → r ≡ Err e → IsErr s → number_given s ≡ number_if good v
+  number-passed v s e h = ap number_given (refused s h) ∙ ap (λ (g : Bool). number_if g v) (sym (told-bad e))
+
+  -- and a set
+  pub set-passed : (v : Bitboard) (s : Result Bitboard BadNumber) {e : BadNumber} → r ≡ Err e → IsErr s → set_given s ≡ set_if good v
+  set-passed v s e h = ap set_given (refused s h) ∙ ap (λ (g : Bool). set_if g v) (sym (told-bad e))
+
+pub one_pop : (a b : Option (ℕ × Bitboard)) → pop_given a ≡ pop_given b → a ≡ b
+one_pop (Some p) (Some q) e = ap₂ (λ (n : ℕ) (s : Bitboard). Some (n, s)) (ap (λ (v : PopValue). v.square) e) (ap (λ (v : PopValue). v.set) e)
+one_pop (Some p) None e = absurd (true≢false (ap (λ (v : PopValue). v.found) e))
+one_pop None (Some q) e = absurd (false≢true (ap (λ (v : PopValue). v.found) e))
+one_pop None None e = refl

@@ -48,7 +48,7 @@ module _ (a : Bitboard) (hl : a.lo < 2 ^ 64) (hh : a.hi < 2 ^ 64) where
       (λ i h. bit-and i (2 ^ 64 - 1 - a.hi) b.hi ∙ ap (λ (t : Bool). t && bit i b.hi) (bit_not64 i a.hi hh (omega arith)))
 
 -- ---- one square alone: `1 << k`, at 64 bits
-one_shl : (k : ℕ) → k < 64 → (1 * 2 ^ k) % 2 ^ 64 ≡ 2 ^ k
+pub one_shl : (k : ℕ) → k < 64 → (1 * 2 ^ k) % 2 ^ 64 ≡ 2 ^ k
 one_shl k h = ap (λ (x : ℕ). x % 2 ^ 64) (one-mul (2 ^ k)) ∙ mod-eq_of_lt (pow-lt h)
 
 single-good : (n : ℕ) {r : Bitboard} → 1 ≤ n → n < 82 → r ≡ single_s n → record { number = 0; set = r } ≡ single_answer n

@@ -1,23 +1,12 @@
 -- The answer of each call: document 01's number, and the values that go with it.
-use Rattle.std.specs.Prelude.{ℕ, Bool, true, false, cond, not, ◌&&◌, List, replicate, ◌==◌, nat_le, nat_lt}
+use Rattle.std.specs.Prelude.{ℕ, Bool, true, false, cond, not, ◌&&◌, List, replicate, ◌==◌, nat_le, nat_lt, Option, Some, None, Result, Ok, Err}
 use Rattle.squares.specs.Board.{on_side, on_board, square_at, file_of, rank_of, flip_to}
 use Rattle.squares.specs.Kinds.{kind_row, good_kind, hand_kind, good_colour, other_colour, good_piece, piece_of, kind_of, colour_of, promoted_piece, unpromoted_piece}
 use Rattle.squares.specs.Sets.{has, empty_s, single_s, is_empty, file_s, pattern_of, smallest, without_s, shift_s, all_good, family}
+use Rattle.squares.specs.declared.bad_number.BadNumber.{BadNumber}
 use Rattle.squares.specs.declared.bitboard.Bitboard.{Bitboard}
 use Rattle.squares.specs.declared.bitboard.Direction.{Direction}
 use Rattle.squares.specs.declared.marks.Marks.{Marks}
-use Rattle.squares.specs.declared.answers.NumberAnswer.{NumberAnswer}
-use Rattle.squares.specs.declared.answers.NumberAnswer.TheVariants as Number
-use Rattle.squares.specs.declared.answers.FormAnswer.{FormAnswer}
-use Rattle.squares.specs.declared.answers.FormAnswer.TheVariants as Form
-use Rattle.squares.specs.declared.answers.SetAnswer.{SetAnswer}
-use Rattle.squares.specs.declared.answers.SetAnswer.TheVariants as Set
-use Rattle.squares.specs.declared.answers.TruthAnswer.{TruthAnswer}
-use Rattle.squares.specs.declared.answers.TruthAnswer.TheVariants as Truth
-use Rattle.squares.specs.declared.answers.PatternAnswer.{PatternAnswer}
-use Rattle.squares.specs.declared.answers.PatternAnswer.TheVariants as Pattern
-use Rattle.squares.specs.declared.answers.PopAnswer.{PopAnswer}
-use Rattle.squares.specs.declared.answers.PopAnswer.TheVariants as Pop
 
 -- ---- what an answer says: document 01's number, and what goes with it
 
@@ -49,6 +38,12 @@ pub record PopValue : Type 0 where
   pub square : ℕ
   pub set : Bitboard
 
+-- the colour sets and the kind sets
+pub record MarksValue : Type 0 where
+  pub number : ℕ
+  pub players : List Bitboard
+  pub kinds : List Bitboard
+
 -- ---- 0 with the value where the numbers are good, else "2: a number out of range"
 
 -- "A refused call carries .. 0 where a number or square"
@@ -73,36 +68,36 @@ truth_if false b = record { number = 2; truth = false }
 
 -- ---- "If an answer is an enum, a definition gives this paper's number and values for each of its cases"
 
--- a number or a square
-abbrev pub number_given : NumberAnswer → NumberValue
-number_given (Number.Number v) = record { number = 0; value = v }
-number_given Number.BadNumber = record { number = 2; value = 0 }
+-- a number, a square or a file's pattern
+abbrev pub number_given : Result ℕ BadNumber → NumberValue
+number_given (Ok v) = record { number = 0; value = v }
+number_given (Err e) = record { number = 2; value = 0 }
 
 -- a kind or a piece, or nothing
-abbrev pub form_given : FormAnswer → FormValue
-form_given (Form.Form v) = record { number = 0; found = true; value = v }
-form_given Form.Nothing = record { number = 0; found = false; value = 0 }
-form_given Form.BadNumber = record { number = 2; found = false; value = 0 }
+abbrev pub form_given : Result (Option ℕ) BadNumber → FormValue
+form_given (Ok (Some v)) = record { number = 0; found = true; value = v }
+form_given (Ok None) = record { number = 0; found = false; value = 0 }
+form_given (Err e) = record { number = 2; found = false; value = 0 }
 
 -- a set
-abbrev pub set_given : SetAnswer → SetValue
-set_given (Set.Set s) = record { number = 0; set = s }
-set_given Set.BadNumber = record { number = 2; set = empty_s }
+abbrev pub set_given : Result Bitboard BadNumber → SetValue
+set_given (Ok s) = record { number = 0; set = s }
+set_given (Err e) = record { number = 2; set = empty_s }
 
 -- a yes or no
-abbrev pub truth_given : TruthAnswer → TruthValue
-truth_given (Truth.Truth b) = record { number = 0; truth = b }
-truth_given Truth.BadNumber = record { number = 2; truth = false }
-
--- a file's pattern
-abbrev pub pattern_given : PatternAnswer → NumberValue
-pattern_given (Pattern.Pattern p) = record { number = 0; value = p }
-pattern_given Pattern.BadNumber = record { number = 2; value = 0 }
+abbrev pub truth_given : Result Bool BadNumber → TruthValue
+truth_given (Ok b) = record { number = 0; truth = b }
+truth_given (Err e) = record { number = 2; truth = false }
 
 -- what pop gives
-abbrev pub pop_given : PopAnswer → PopValue
-pop_given (Pop.Square n s) = record { number = 0; found = true; square = n; set = s }
-pop_given Pop.Nothing = record { number = 0; found = false; square = 0; set = empty_s }
+abbrev pub pop_given : Option (ℕ × Bitboard) → PopValue
+pop_given (Some p) = record { number = 0; found = true; square = p.0; set = p.1 }
+pop_given None = record { number = 0; found = false; square = 0; set = empty_s }
+
+-- the sets of a board; of a refused one each is empty
+abbrev pub marks_given : Result Marks BadNumber → MarksValue
+marks_given (Ok m) = record { number = 0; players = m.players; kinds = m.kinds }
+marks_given (Err e) = record { number = 2; players = replicate 2 empty_s; kinds = replicate 14 empty_s }
 
 -- ---- squares
 
@@ -195,7 +190,7 @@ unfoldable pub shift_answer : Direction → ℕ → Bitboard → SetValue
 shift_answer dir d s = set_if (nat_le d 9) (shift_s dir d s)
 
 -- Marks::of: "Two colour sets and fourteen kind sets of squares"; of a bad cell 2, and every set is empty
-unfoldable pub marks_answer : List ℕ → Marks
+unfoldable pub marks_answer : List ℕ → MarksValue
 marks_answer cells =
     cond (all_good cells) (record { number = 0; players = family colour_of 2 cells; kinds = family kind_of 14 cells })
     (record { number = 2; players = replicate 2 empty_s; kinds = replicate 14 empty_s })

@@ -1,11 +1,12 @@
 // Sets of squares in two words: square n is bit n - 1 of the first for n up to 63, else bit n - 64 of the second. Bit
-// 63 of the first and bits 18 and up of the second are stray: ignored on entry, zero in every result.
-ghost use Rattle.std.specs.Prelude.{◌≡◌, ◌<◌, ◌≤◌};
+// 63 of the first and bits 18 and up of the second are stray: ignored on entry, zero in every result. Equality isn't
+// derived: it would tell two words of one set apart by their stray bits.
+ghost use Rattle.std.specs.Prelude.{◌≡◌, ◌<◌, ◌≤◌, nat_le};
 ghost use Rattle.squares.specs.Bit.{reversed9};
 ghost use Rattle.squares.specs.Sets.{has, set_of, empty_s, or_s, and_s, xor_s, andnot_s, not_s, size, is_empty, exactly, file_s, pattern_of, flip_s};
-ghost use Rattle.squares.specs.Answers.{set_given, truth_given, pattern_given, pop_given, single_answer, contains_answer, from_file_answer, get_file_answer, pop_answer, shift_answer};
+ghost use Rattle.squares.specs.Answers.{number_if, number_given, set_given, truth_given, pop_given, single_answer, contains_answer, from_file_answer, get_file_answer, pop_answer, shift_answer};
 
-use crate::answers::{PatternAnswer, PopAnswer, SetAnswer, TruthAnswer};
+use crate::bad_number::BadNumber;
 
 #[repr(C)]
 #[derive(Clone, Copy)]
@@ -44,27 +45,27 @@ impl Bitboard {
         Self { lo: 0, hi: 0 }
     }
 
-    pub fn single(square: u8) -> SetAnswer
+    pub fn single(square: u8) -> Result<Self, BadNumber>
         ensures { set_given result ≡ single_answer square }
     {
         match square {
-            1..=63 => SetAnswer::Set(Self {
+            1..=63 => Ok(Self {
                 lo: 1 << (square - 1),
                 hi: 0,
             }),
-            64..=81 => SetAnswer::Set(Self {
+            64..=81 => Ok(Self {
                 lo: 0,
                 hi: 1 << (square - 64),
             }),
-            _ => SetAnswer::BadNumber,
+            _ => Err(BadNumber),
         }
     }
 
-    // How many squares the set has.
+    // How many squares the set has. (`as` loses nothing of 81, and try_from would bring in a refusal that never comes.)
     pub fn count(self) -> u8
         ensures { result ≡ size self }
     {
-        (u64::count_ones(self.lo & Self::MASK0) + u64::count_ones(self.hi & Self::MASK1)) as u8
+        ((self.lo & Self::MASK0).count_ones() + (self.hi & Self::MASK1).count_ones()) as u8
     }
 
     pub fn is_empty(self) -> bool
@@ -78,22 +79,19 @@ impl Bitboard {
     pub fn is_exactly(self, other: Self) -> bool
         ensures { result ≡ exactly self other }
     {
-        if self.lo == other.lo & Self::MASK0 {
-            self.hi == other.hi & Self::MASK1
-        } else {
-            false
-        }
+        self.lo == other.lo & Self::MASK0 && self.hi == other.hi & Self::MASK1
     }
 
-    pub fn contains(self, square: u8) -> TruthAnswer
+    pub fn contains(self, square: u8) -> Result<bool, BadNumber>
         ensures { truth_given result ≡ contains_answer self square }
     {
-        // With the first word doubled, a square's bit is its number modulo 64 in either word: no branch is needed.
+        // With the first word doubled, a square's bit is its number modulo 64 in either word: it is found, of any number, without a
+        // jump, and the number is judged after it.
         let word = if square < 64 { self.lo << 1 } else { self.hi };
         let found = (word >> (square % 64)) % 2 == 1;
         match square {
-            1..=81 => TruthAnswer::Truth(found),
-            _ => TruthAnswer::BadNumber,
+            1..=81 => Ok(found),
+            _ => Err(BadNumber),
         }
     }
 
@@ -130,15 +128,12 @@ impl Bitboard {
     }
 
     // The squares of one file whose bits are set in a pattern: bit 0 is rank A.
-    pub fn from_file(file: u8, pattern: u16) -> SetAnswer
+    pub fn from_file(file: u8, pattern: u16) -> Result<Self, BadNumber>
         ensures { set_given result ≡ from_file_answer file pattern }
     {
-        if 511 < pattern {
-            return SetAnswer::BadNumber;
-        }
-        match file {
-            1..=9 => SetAnswer::Set(Self::file_set(file, pattern)),
-            _ => SetAnswer::BadNumber,
+        match (file, pattern) {
+            (1..=9, 0..=511) => Ok(Self::file_set(file, pattern)),
+            _ => Err(BadNumber),
         }
     }
 
@@ -148,26 +143,27 @@ impl Bitboard {
     {
         if file <= 7 {
             return Self {
-                lo: (pattern as u64) << (9 * (file - 1)),
+                lo: u64::from(pattern) << (9 * (file - 1)),
                 hi: 0,
             };
         }
         Self {
             lo: 0,
-            hi: (pattern as u64) << (9 * (file - 8)),
+            hi: u64::from(pattern) << (9 * (file - 8)),
         }
     }
 
     // The pattern of one file: bit 0 is rank A.
-    pub fn get_file(self, file: u8) -> PatternAnswer
-        ensures { pattern_given result ≡ get_file_answer self file }
+    pub fn get_file(self, file: u8) -> Result<u16, BadNumber>
+        ensures { number_given result ≡ get_file_answer self file }
     {
         match file {
-            1..=9 => PatternAnswer::Pattern(self.file_pattern(file)),
-            _ => PatternAnswer::BadNumber,
+            1..=9 => Ok(self.file_pattern(file)),
+            _ => Err(BadNumber),
         }
     }
 
+    // (`as` as in `count`: nine bits remain.)
     fn file_pattern(self, file: u8) -> u16
         requires { (1 ≤ file) × (file ≤ 9) }
         ensures { result ≡ pattern_of self file }
@@ -178,7 +174,8 @@ impl Bitboard {
         ((self.hi >> (9 * (file - 8))) % 512) as u16
     }
 
-    // The nine bits of a pattern, last first.
+    // The nine bits of a pattern, last first. (The library's reverse_bits takes a step for each of
+    // sixteen. `i` is what the loop's invariant, in proofs/, speaks of: `_` would leave it nothing to name.)
     fn reversed9(pattern: u16) -> u16
         ensures { result ≡ reversed9 pattern }
     {
@@ -186,7 +183,7 @@ impl Bitboard {
         let mut turned: u16 = 0;
         for i in 0..9u8 {
             turned = 2 * turned + rest % 2;
-            rest = rest / 2;
+            rest /= 2;
         }
         turned
     }
@@ -203,27 +200,29 @@ impl Bitboard {
         turned
     }
 
-    // The smallest square, and the set without it. A word's lowest bit goes by subtracting one with wrap and masking.
-    pub fn pop(self) -> PopAnswer
+    // The smallest square, and the set without it. A word's lowest bit goes by subtracting one with wrap and masking. (`as` as in
+    // `count`.)
+    pub fn pop(self) -> Option<(u8, Self)>
         ensures { pop_given result ≡ pop_answer self }
     {
         let lo = self.lo & Self::MASK0;
         let hi = self.hi & Self::MASK1;
         if lo != 0 {
-            let square = u64::trailing_zeros(lo) + 1;
-            let rest = lo & std::num::wrapping_sub_u64(lo, 1);
-            return PopAnswer::Square(square as u8, Self { lo: rest, hi });
+            let square = lo.trailing_zeros() + 1;
+            let rest = lo & lo.wrapping_sub(1);
+            return Some((square as u8, Self { lo: rest, hi }));
         }
         if hi != 0 {
-            let square = u64::trailing_zeros(hi) + 64;
-            let rest = hi & std::num::wrapping_sub_u64(hi, 1);
-            return PopAnswer::Square(square as u8, Self { lo: 0, hi: rest });
+            let square = hi.trailing_zeros() + 64;
+            let rest = hi & hi.wrapping_sub(1);
+            return Some((square as u8, Self { lo: 0, hi: rest }));
         }
-        PopAnswer::Nothing
+        None
     }
 
-    // Every square moved by delta, 0 to 9; squares that leave the board vanish.
-    pub fn shift(self, dir: Direction, delta: u8) -> SetAnswer
+    // Every square moved by delta, 0 to 9; squares that leave the board vanish. (One arm for each of four calls that C has too: their
+    // bodies differ in more than a constant.)
+    pub fn shift(self, dir: Direction, delta: u8) -> Result<Self, BadNumber>
         ensures { set_given result ≡ shift_answer dir delta self }
     {
         match dir {
@@ -234,57 +233,59 @@ impl Bitboard {
         }
     }
 
-    pub fn shift_down(self, delta: u8) -> SetAnswer
+    // Downwards squares grow within their file: a word moves up, and `mask` keeps the ranks below the first `by`. (`top` has the bit
+    // behind each file's last, from which subtracting takes `by` bits off; a stray bit reaches none of the ranks kept.)
+    pub fn shift_down(self, delta: u8) -> Result<Self, BadNumber>
         ensures { set_given result ≡ shift_answer Direction.Down delta self }
     {
-        if 9 < delta {
-            return SetAnswer::BadNumber;
-        }
-        let by = delta as u64;
+        let by = Self::distance(delta)?;
         let top: u64 = 0x8040_2010_0804_0200;
         let mask = top - (top >> (9 - by));
-        SetAnswer::Set(Self::clean((self.lo << by) & mask, (self.hi << by) & mask))
+        Ok(Self::clean((self.lo << by) & mask, (self.hi << by) & mask))
     }
 
-    pub fn shift_up(self, delta: u8) -> SetAnswer
+    // The same downwards, with the first bit of each file: the ranks above the last `by` are kept.
+    pub fn shift_up(self, delta: u8) -> Result<Self, BadNumber>
         ensures { set_given result ≡ shift_answer Direction.Up delta self }
     {
-        if 9 < delta {
-            return SetAnswer::BadNumber;
-        }
-        let by = delta as u64;
+        let by = Self::distance(delta)?;
         let bottom: u64 = 0x40_2010_0804_0201;
         let mask = (bottom << (9 - by)) - bottom;
-        SetAnswer::Set(Self::clean((self.lo >> by) & mask, (self.hi >> by) & mask))
+        Ok(Self::clean((self.lo >> by) & mask, (self.hi >> by) & mask))
     }
 
-    pub fn shift_left(self, delta: u8) -> SetAnswer
+    // Files grow to the left: whole files move up, and those above the seventh go on in the second word.
+    pub fn shift_left(self, delta: u8) -> Result<Self, BadNumber>
         ensures { set_given result ≡ shift_answer Direction.Left delta self }
     {
-        if 9 < delta {
-            return SetAnswer::BadNumber;
-        }
+        let by = 9 * Self::distance(delta)?;
         let lo = self.lo & Self::MASK0;
         let hi = self.hi & Self::MASK1;
-        let by = 9 * delta;
-        if delta <= 7 {
-            return SetAnswer::Set(Self::clean(lo << by, (hi << by) | (lo >> (63 - by))));
+        if by <= 63 {
+            return Ok(Self::clean(lo << by, (hi << by) | (lo >> (63 - by))));
         }
-        SetAnswer::Set(Self::clean(0, lo << (by - 63)))
+        Ok(Self::clean(0, lo << (by - 63)))
     }
 
-    pub fn shift_right(self, delta: u8) -> SetAnswer
+    pub fn shift_right(self, delta: u8) -> Result<Self, BadNumber>
         ensures { set_given result ≡ shift_answer Direction.Right delta self }
     {
-        if 9 < delta {
-            return SetAnswer::BadNumber;
-        }
+        let by = 9 * Self::distance(delta)?;
         let lo = self.lo & Self::MASK0;
         let hi = self.hi & Self::MASK1; // a stray bit would come down onto the board
-        let by = 9 * delta;
-        if delta <= 7 {
-            return SetAnswer::Set(Self::clean((lo >> by) | (hi << (63 - by)), hi >> by));
+        if by <= 63 {
+            return Ok(Self::clean((lo >> by) | (hi << (63 - by)), hi >> by));
         }
-        SetAnswer::Set(Self::clean(hi >> (by - 63), 0))
+        Ok(Self::clean(hi >> (by - 63), 0))
+    }
+
+    // By how much a shift may move.
+    fn distance(delta: u8) -> Result<u8, BadNumber>
+        ensures { number_given result ≡ number_if (nat_le delta 9) delta }
+    {
+        match delta {
+            0..=9 => Ok(delta),
+            _ => Err(BadNumber),
+        }
     }
 }

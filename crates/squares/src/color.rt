@@ -3,7 +3,7 @@ ghost use Rattle.std.specs.Prelude.{◌≡◌};
 ghost use Rattle.squares.specs.Kinds.{good_colour};
 ghost use Rattle.squares.specs.Answers.{number_given, other_colour_answer};
 
-use crate::answers::NumberAnswer;
+use crate::bad_number::BadNumber;
 
 #[derive(Clone, Copy)]
 pub struct Color;
@@ -11,6 +11,7 @@ pub struct Color;
 impl Color {
     pub const NUM: usize = 2;
 
+    // Numbers, as colours are in every call (head of lib.rt).
     pub const BLACK: u8 = 1;
 
     pub const WHITE: u8 = 2;
@@ -18,18 +19,15 @@ impl Color {
     pub fn is_good(color: u8) -> bool
         ensures { result ≡ good_colour color }
     {
-        match color {
-            1..=2 => true,
-            _ => false,
-        }
+        matches!(color, 1..=2)
     }
 
-    pub fn flip(color: u8) -> NumberAnswer
+    pub fn flip(color: u8) -> Result<u8, BadNumber>
         ensures { number_given result ≡ other_colour_answer color }
     {
         if !Self::is_good(color) {
-            return NumberAnswer::BadNumber;
+            return Err(BadNumber);
         }
-        NumberAnswer::Number(3 - color)
+        Ok(3 - color)
     }
 }

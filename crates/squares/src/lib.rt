@@ -1,7 +1,10 @@
-// Squares, colours, kinds, pieces and sets of squares: the bottom layer, which rests on nothing.
+// Squares, colours, kinds, pieces and sets of squares: the bottom layer, which rests on nothing. Squares, colours, kinds and pieces
+// are taken as numbers and not as enums, since any number may be passed: theorems and must-fail edits speak of bad ones too.
+// In braces stands what is proved, and a name there is a definition of specs/, which `ghost use` brings in: where a function has the
+// same name, it answers what that definition says. `x.old` is what a lent `x` was at entry, `x.new` what it is at exit.
 #![tactic(auto)]
 
-mod answers;
+mod bad_number;
 mod bitboard;
 mod by_cell;
 mod color;
@@ -10,7 +13,7 @@ mod piece;
 mod piece_kind;
 mod square;
 
-pub use answers::{FormAnswer, NumberAnswer, PatternAnswer, PopAnswer, SetAnswer, TruthAnswer};
+pub use bad_number::BadNumber;
 pub use bitboard::{Bitboard, Direction};
 pub use color::Color;
 pub use marks::Marks;

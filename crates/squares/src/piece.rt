@@ -4,7 +4,7 @@ ghost use Rattle.std.specs.Prelude.{◌≡◌};
 ghost use Rattle.squares.specs.Kinds.{good_piece, good_cell};
 ghost use Rattle.squares.specs.Answers.{number_given, form_given, piece_answer, kind_answer, colour_answer, promoted_piece_answer, unpromoted_piece_answer};
 
-use crate::answers::{FormAnswer, NumberAnswer};
+use crate::bad_number::BadNumber;
 use crate::piece_kind::PieceKind;
 
 #[derive(Clone, Copy)]
@@ -14,79 +14,73 @@ impl Piece {
     pub fn is_good(piece: u8) -> bool
         ensures { result ≡ good_piece piece }
     {
-        match piece {
-            1..=14 | 17..=30 => true,
-            _ => false,
-        }
+        matches!(piece, 1..=14 | 17..=30)
     }
 
     // Whether a cell may hold this number: 0, or a piece.
     pub fn is_cell(cell: u8) -> bool
         ensures { result ≡ good_cell cell }
     {
-        if cell == 0 { true } else { Self::is_good(cell) }
+        cell == 0 || Self::is_good(cell)
     }
 
     // The piece of a kind and a colour.
-    pub fn new(kind: u8, color: u8) -> NumberAnswer
+    pub fn new(kind: u8, color: u8) -> Result<u8, BadNumber>
         ensures { number_given result ≡ piece_answer kind color }
     {
         if !PieceKind::is_good(kind) {
-            return NumberAnswer::BadNumber;
+            return Err(BadNumber);
         }
         match color {
-            1 => NumberAnswer::Number(kind),
-            2 => NumberAnswer::Number(16 + kind),
-            _ => NumberAnswer::BadNumber,
+            1 => Ok(kind),
+            2 => Ok(16 + kind),
+            _ => Err(BadNumber),
         }
     }
 
-    pub fn kind(piece: u8) -> NumberAnswer
+    pub fn kind(piece: u8) -> Result<u8, BadNumber>
         ensures { number_given result ≡ kind_answer piece }
     {
         match piece {
-            1..=14 => NumberAnswer::Number(piece),
-            17..=30 => NumberAnswer::Number(piece - 16),
-            _ => NumberAnswer::BadNumber,
+            1..=14 => Ok(piece),
+            17..=30 => Ok(piece - 16),
+            _ => Err(BadNumber),
         }
     }
 
-    pub fn color(piece: u8) -> NumberAnswer
+    pub fn color(piece: u8) -> Result<u8, BadNumber>
         ensures { number_given result ≡ colour_answer piece }
     {
         match piece {
-            1..=14 => NumberAnswer::Number(1),
-            17..=30 => NumberAnswer::Number(2),
-            _ => NumberAnswer::BadNumber,
+            1..=14 => Ok(1),
+            17..=30 => Ok(2),
+            _ => Err(BadNumber),
         }
     }
 
-    // The promoted piece of the same colour, or nothing where its kind does not promote.
-    pub fn promote(piece: u8) -> FormAnswer
+    // The promoted piece of the same colour, or nothing where its kind does not promote. (A closure that adds would have to carry why
+    // the sum fits.)
+    pub fn promote(piece: u8) -> Result<Option<u8>, BadNumber>
         ensures { form_given result ≡ promoted_piece_answer piece }
     {
         if 31 < piece {
-            return FormAnswer::BadNumber;
+            return Err(BadNumber);
         }
         let kind = piece % 16;
-        match PieceKind::promote(kind) {
-            FormAnswer::Form(promoted) => FormAnswer::Form(piece - kind + promoted),
-            FormAnswer::Nothing => FormAnswer::Nothing,
-            FormAnswer::BadNumber => FormAnswer::BadNumber,
+        match PieceKind::promote(kind)? {
+            Some(promoted) => Ok(Some(piece - kind + promoted)),
+            None => Ok(None),
         }
     }
 
     // The unpromoted piece of the same colour; a piece that is not promoted is its own.
-    pub fn unpromote(piece: u8) -> NumberAnswer
+    pub fn unpromote(piece: u8) -> Result<u8, BadNumber>
         ensures { number_given result ≡ unpromoted_piece_answer piece }
     {
         if 31 < piece {
-            return NumberAnswer::BadNumber;
+            return Err(BadNumber);
         }
         let kind = piece % 16;
-        match PieceKind::unpromote(kind) {
-            NumberAnswer::Number(unpromoted) => NumberAnswer::Number(piece - kind + unpromoted),
-            NumberAnswer::BadNumber => NumberAnswer::BadNumber,
-        }
+        Ok(piece - kind + PieceKind::unpromote(kind)?)
     }
 }

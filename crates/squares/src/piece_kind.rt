@@ -4,7 +4,7 @@ ghost use Rattle.std.specs.Prelude.{◌≡◌, ◌≤◌};
 ghost use Rattle.squares.specs.Kinds.{good_kind, kind_row};
 ghost use Rattle.squares.specs.Answers.{number_given, form_given, promoted_answer, unpromoted_answer, limit_answer, letter_answer, hand_kind_answer};
 
-use crate::answers::{FormAnswer, NumberAnswer};
+use crate::bad_number::BadNumber;
 
 #[derive(Clone, Copy)]
 pub struct PieceKind;
@@ -15,58 +15,55 @@ impl PieceKind {
     pub fn is_good(kind: u8) -> bool
         ensures { result ≡ good_kind kind }
     {
-        match kind {
-            1..=14 => true,
-            _ => false,
-        }
+        matches!(kind, 1..=14)
     }
 
     // The promoted form, or nothing: Gold, King and promoted kinds do not promote.
-    pub fn promote(kind: u8) -> FormAnswer
+    pub fn promote(kind: u8) -> Result<Option<u8>, BadNumber>
         ensures { form_given result ≡ promoted_answer kind }
     {
         match kind {
-            1..=4 => FormAnswer::Form(kind + 8),
-            6..=7 => FormAnswer::Form(kind + 7),
-            1..=14 => FormAnswer::Nothing,
-            _ => FormAnswer::BadNumber,
+            1..=4 => Ok(Some(kind + 8)),
+            6..=7 => Ok(Some(kind + 7)),
+            1..=14 => Ok(None),
+            _ => Err(BadNumber),
         }
     }
 
     // The unpromoted form; a kind that is not promoted is its own.
-    pub fn unpromote(kind: u8) -> NumberAnswer
+    pub fn unpromote(kind: u8) -> Result<u8, BadNumber>
         ensures { number_given result ≡ unpromoted_answer kind }
     {
         match kind {
-            1..=8 => NumberAnswer::Number(kind),
-            9..=12 => NumberAnswer::Number(kind - 8),
-            13..=14 => NumberAnswer::Number(kind - 7),
-            _ => NumberAnswer::BadNumber,
+            1..=8 => Ok(kind),
+            9..=12 => Ok(kind - 8),
+            13..=14 => Ok(kind - 7),
+            _ => Err(BadNumber),
         }
     }
 
     // How many a full set has, promoted and unpromoted together: of kings one for each colour.
-    pub fn limit(kind: u8) -> NumberAnswer
+    pub fn limit(kind: u8) -> Result<u8, BadNumber>
         ensures { number_given result ≡ limit_answer kind }
     {
         match kind {
-            1 | 9 => NumberAnswer::Number(18),
-            2..=5 | 10..=12 => NumberAnswer::Number(4),
-            6..=7 | 13..=14 => NumberAnswer::Number(2),
-            8 => NumberAnswer::Number(1),
-            _ => NumberAnswer::BadNumber,
+            1 | 9 => Ok(18),
+            2..=5 | 10..=12 => Ok(4),
+            6..=7 | 13..=14 => Ok(2),
+            8 => Ok(1),
+            _ => Err(BadNumber),
         }
     }
 
     // The byte of the capital letter, P L N S G B R K; a promoted kind has its unpromoted kind's.
-    pub fn letter(kind: u8) -> NumberAnswer
+    pub fn letter(kind: u8) -> Result<u8, BadNumber>
         ensures { number_given result ≡ letter_answer kind }
     {
         match kind {
-            1..=8 => NumberAnswer::Number(Self::unpromoted_letter(kind)),
-            9..=12 => NumberAnswer::Number(Self::unpromoted_letter(kind - 8)),
-            13..=14 => NumberAnswer::Number(Self::unpromoted_letter(kind - 7)),
-            _ => NumberAnswer::BadNumber,
+            1..=8 => Ok(Self::unpromoted_letter(kind)),
+            9..=12 => Ok(Self::unpromoted_letter(kind - 8)),
+            13..=14 => Ok(Self::unpromoted_letter(kind - 7)),
+            _ => Err(BadNumber),
         }
     }
 
@@ -87,15 +84,15 @@ impl PieceKind {
     }
 
     // The kind as which a piece is held in hand: its unpromoted kind, and nothing for a king.
-    pub fn hand_kind(kind: u8) -> FormAnswer
+    pub fn hand_kind(kind: u8) -> Result<Option<u8>, BadNumber>
         ensures { form_given result ≡ hand_kind_answer kind }
     {
         match kind {
-            1..=7 => FormAnswer::Form(kind),
-            9..=12 => FormAnswer::Form(kind - 8),
-            13..=14 => FormAnswer::Form(kind - 7),
-            1..=14 => FormAnswer::Nothing,
-            _ => FormAnswer::BadNumber,
+            1..=7 => Ok(Some(kind)),
+            9..=12 => Ok(Some(kind - 8)),
+            13..=14 => Ok(Some(kind - 7)),
+            1..=14 => Ok(None),
+            _ => Err(BadNumber),
         }
     }
 }

@@ -1,9 +1,6 @@
-use Rattle.std.proofs.Common.{◌≡◌, ◌-◌, ◌^◌, ◌≤◌}
+use Rattle.std.proofs.Common.{◌≡◌, ◌^◌}
 use Rattle.squares.proofs.ByCell.{words_to}
 use Rattle.squares.proofs.by_cell.cell_words.Given as goal
 
-abbrev pub invariant-loop-i : goal.invariant-loop-i
-invariant-loop-i l = (l.i ≤ l.count) × (l.words ≡ words_to l.board l.from l.i) × (l.bit ≡ 2 ^ l.i)
-
-abbrev pub decreases-loop-i : goal.decreases-loop-i
-decreases-loop-i l = l.count - l.i
+abbrev pub invariant-loop-cell : goal.invariant-loop-cell
+invariant-loop-cell l = (l.words ≡ words_to l.cells l.cell-index) × (l.bit ≡ 2 ^ l.cell-index)

@@ -3,9 +3,6 @@ use Rattle.squares.proofs.Files.{pattern_good, pattern_bad}
 use Rattle.std.proofs.Common.{arith}
 use Rattle.squares.proofs.bitboard.Bitboard.get_file.Goals as goal
 
-pub file_pattern-requires : goal.file_pattern-requires
-file_pattern-requires c = ((omega arith), omega arith)
-
 pub returns-in-1-to-9 : goal.returns-in-1-to-9
 returns-in-1-to-9 c = pattern_good _ c.args.file (omega arith) (omega arith) c.file_pattern.ensures
 

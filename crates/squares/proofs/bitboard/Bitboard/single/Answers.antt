@@ -3,18 +3,6 @@ use Rattle.squares.proofs.Steps.{board-low, board-high}
 use Rattle.squares.proofs.Words.{single_lo, single_hi, single_bad}
 use Rattle.squares.proofs.bitboard.Bitboard.single.Goals as goal
 
-pub overflow_cast-result : goal.overflow_cast-result
-overflow_cast-result c = omega arith
-
-pub overflow_shl-result : goal.overflow_shl-result
-overflow_shl-result c = omega arith
-
-pub overflow_cast-result-in-64-to-81 : goal.overflow_cast-result-in-64-to-81
-overflow_cast-result-in-64-to-81 c = omega arith
-
-pub overflow_shl-result-in-64-to-81 : goal.overflow_shl-result-in-64-to-81
-overflow_shl-result-in-64-to-81 c = omega arith
-
 pub returns-in-1-to-63 : goal.returns-in-1-to-63
 returns-in-1-to-63 c = single_lo c.args.square (omega arith) (omega arith)
 

@@ -1,37 +1,30 @@
--- The invariant: the colour sets have the pieces of the kinds passed, and the sets of these kinds are made.
-use Rattle.std.proofs.Common.{zero-le}
-use Rattle.std.proofs.Common.{◌≡◌, ◌+◌, sym, refl, ap, ◌∙◌, arith}
-use borrow.Author.Tests.{not-false, not-true}
+-- The invariant: the sets of the kinds passed are made.
+use Rattle.std.proofs.Common.{sym, refl, ap, ◌∙◌}
+use Rattle.squares.specs.Sets.{is_empty}
 use Rattle.squares.proofs.Lists.{filled_none, filled_more, filled_all}
-use Rattle.squares.proofs.Marking.{side_to, side-none, side_more, both_of, both_of_lem, marks-good, marks_bad, bad_told}
+use Rattle.squares.proofs.Marking.{both_of, both_of_lem, black_pieces, white_pieces, side-gathered, marks-good, marks_bad, bad_told}
 use Rattle.squares.proofs.marks.Marks.of.Goals as goal
 
-pub returns-then-any_square : goal.returns-then-any_square
-returns-then-any_square c =
-    marks_bad c.args.board.now _ c.empty-none.ensures
-    (not-true _ (sym (bad_told c.args.board.now _ _ _ _ c.by_cell-sets.ensures) ∙ sym c.any_square.ensures ∙ c.if-any_square.true))
+pub returns-then-not-is_empty : goal.returns-then-not-is_empty
+returns-then-not-is_empty c =
+    let b = c.args.board.now in
+    marks_bad b (sym (c.is_empty.ensures ∙ ap is_empty c.union-bad.ensures ∙ bad_told b _ _ _ _ c.by_cell-sets.ensures) ∙ c.if-not-is_empty.true)
 
 pub loop-j-init : goal.loop-j-init
-loop-j-init c =
-    let b = c.args.board.now in
-    let none = c.empty-none.ensures in
-    (zero-le, none ∙ side-none b 1, none ∙ side-none b 17, filled_none (both_of b) 14 _ refl)
+loop-j-init c = filled_none (both_of c.args.board.now) 14 _ refl
 
 pub loop-j-preserved : goal.loop-j-preserved
 loop-j-preserved c =
     let l = c.loop-j in
     let b = c.args.board.now in
-    let sets = c.by_cell-sets.ensures in (
-      omega arith,
-      side_more b 1 l.j (l.j + 1) _ _ _ _ _ (omega arith) (omega arith) sets l.invariant.1 refl c.or-black.ensures,
-      side_more b 17 l.j (l.j + 17) _ _ _ _ _ (omega arith) (omega arith) sets l.invariant.2 refl c.or-white.ensures,
-      filled_more (both_of b) 14 l.j l.kinds _ (omega arith) l.invariant.3 (both_of_lem b l.j _ _ _ _ (omega arith) sets c.or.ensures),
-    )
+    let sets = c.by_cell-sets.ensures in
+    let t = c.loop-j-test.true in
+    filled_more (both_of b) 14 l.j l.kind-items _ t l.invariant (both_of_lem b l.j _ _ t (black_pieces b _ sets) (white_pieces b _ sets) c.or.ensures)
 
 pub returns : goal.returns
 returns c =
-    let l = c.loop-j in
     let b = c.args.board.now in
-    let e : l.j ≡ 14 = omega arith in
-    marks-good b (not-false _ (sym (bad_told b _ _ _ _ c.by_cell-sets.ensures) ∙ sym c.any_square.ensures ∙ c.if-any_square.false)) _ _ _
-    (l.invariant.1 ∙ ap (side_to b 1) e) (l.invariant.2 ∙ ap (side_to b 17) e) (filled_all (both_of b) 14 l.j l.kinds (omega arith) l.invariant.3)
+    let sets = c.by_cell-sets.ensures in
+    marks-good b (sym (c.is_empty.ensures ∙ ap is_empty c.union-bad.ensures ∙ bad_told b _ _ _ _ sets) ∙ c.if-not-is_empty.false) _ _ _
+    (c.union.ensures ∙ side-gathered b 0 (black_pieces b _ sets)) (c.union-2.ensures ∙ side-gathered b 16 (white_pieces b _ sets))
+    (filled_all (both_of b) 14 c.loop-j.j _ c.loop-j-test.false c.loop-j.invariant)

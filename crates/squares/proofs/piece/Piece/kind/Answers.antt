@@ -6,10 +6,6 @@ use Rattle.squares.proofs.Numbers.{piece-high}
 use Rattle.squares.proofs.Tests.{rows_number}
 use Rattle.squares.proofs.piece.Piece.kind.Goals as goal
 
-pub overflow_sub-result : goal.overflow_sub-result
-unfolding kind_answer good_piece kind_of good_kind
-overflow_sub-result c = omega arith
-
 pub returns-in-1-to-14 : goal.returns-in-1-to-14
 unfolding kind_answer good_piece kind_of good_kind
 returns-in-1-to-14 c = rows_number (λ k. record { number = 0; value = k }) kind_answer 1 14 tt c.args.piece (omega arith) (omega arith)

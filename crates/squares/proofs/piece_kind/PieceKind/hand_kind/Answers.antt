@@ -7,10 +7,6 @@ use Rattle.squares.proofs.Numbers.{kind_high}
 use Rattle.squares.proofs.Tests.{rows_form}
 use Rattle.squares.proofs.piece_kind.PieceKind.hand_kind.Goals as goal
 
-pub overflow_sub-result-in-13-to-14 : goal.overflow_sub-result-in-13-to-14
-unfolding hand_kind_answer hand_kind good_kind kind_row kinds
-overflow_sub-result-in-13-to-14 c = omega arith
-
 pub returns-in-1-to-14 : goal.returns-in-1-to-14
 unfolding hand_kind_answer hand_kind good_kind kind_row kinds
 returns-in-1-to-14 c = let e : c.args.kind ≡ 8 = omega arith in rw e

@@ -9,18 +9,6 @@ use Rattle.squares.proofs.piece_kind.PieceKind.letter.Goals as goal
 abbrev told : ℕ → NumberValue
 told v = record { number = 0; value = v }
 
-pub unpromoted_letter-requires : goal.unpromoted_letter-requires
-unfolding letter_answer good_kind kind_row kinds
-unpromoted_letter-requires c = (omega arith, omega arith)
-
-pub unpromoted_letter-requires-in-9-to-12 : goal.unpromoted_letter-requires-in-9-to-12
-unfolding letter_answer good_kind kind_row kinds
-unpromoted_letter-requires-in-9-to-12 c = (omega arith, omega arith)
-
-pub unpromoted_letter-requires-in-13-to-14 : goal.unpromoted_letter-requires-in-13-to-14
-unfolding letter_answer good_kind kind_row kinds
-unpromoted_letter-requires-in-13-to-14 c = (omega arith, omega arith)
-
 pub returns-in-1-to-8 : goal.returns-in-1-to-8
 unfolding letter_answer good_kind kind_row kinds
 returns-in-1-to-8 c = ap told c.unpromoted_letter.ensures ∙ rows_number (λ k. told (kind_row k).letter) letter_answer 1 8 tt c.args.kind (omega arith) (omega arith)

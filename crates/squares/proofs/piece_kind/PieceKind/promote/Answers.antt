@@ -7,14 +7,6 @@ use Rattle.squares.proofs.Numbers.{kind_high}
 use Rattle.squares.proofs.Tests.{rows_form}
 use Rattle.squares.proofs.piece_kind.PieceKind.promote.Goals as goal
 
-pub overflow_add-result : goal.overflow_add-result
-unfolding promoted_answer good_kind kind_row kinds
-overflow_add-result c = omega arith
-
-pub overflow_add-result-in-6-to-7 : goal.overflow_add-result-in-6-to-7
-unfolding promoted_answer good_kind kind_row kinds
-overflow_add-result-in-6-to-7 c = omega arith
-
 pub returns-in-1-to-4 : goal.returns-in-1-to-4
 unfolding promoted_answer good_kind kind_row kinds
 returns-in-1-to-4 c = rows_form (λ k. record { number = 0; found = true; value = k + 8 }) promoted_answer 1 4 tt c.args.kind (omega arith) (omega arith)

@@ -6,14 +6,6 @@ use Rattle.squares.proofs.Numbers.{kind_high}
 use Rattle.squares.proofs.Tests.{rows_number}
 use Rattle.squares.proofs.piece_kind.PieceKind.unpromote.Goals as goal
 
-pub overflow_sub-result : goal.overflow_sub-result
-unfolding unpromoted_answer good_kind kind_row kinds
-overflow_sub-result c = omega arith
-
-pub overflow_sub-result-in-13-to-14 : goal.overflow_sub-result-in-13-to-14
-unfolding unpromoted_answer good_kind kind_row kinds
-overflow_sub-result-in-13-to-14 c = omega arith
-
 pub returns-in-1-to-8 : goal.returns-in-1-to-8
 unfolding unpromoted_answer good_kind kind_row kinds
 returns-in-1-to-8 c = rows_number (λ k. record { number = 0; value = k }) unpromoted_answer 1 8 tt c.args.kind (omega arith) (omega arith)

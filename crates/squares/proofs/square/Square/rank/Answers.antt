@@ -1,22 +1,12 @@
--- The square is on the board in its range.
-use Rattle.std.proofs.Common.{sym, ◌∙◌, arith}
 use Rattle.squares.specs.Board.{rank_of}
 use Rattle.squares.specs.Answers.{rank_answer}
-use Rattle.squares.proofs.Steps.{board_range}
+use Rattle.squares.proofs.Unique.{told-good, number-passed}
 use Rattle.squares.proofs.square.Square.rank.Goals as goal
 
-pub returns-then-not-is_good : goal.returns-then-not-is_good
-unfolding rank_answer rank_of
-returns-then-not-is_good c = rw (sym c.is_good.ensures ∙ c.if-not-is_good.true)
-
-pub overflow_sub-result : goal.overflow_sub-result
-unfolding rank_answer rank_of
-overflow_sub-result c = omega (arith, board_range 9 _ (sym c.is_good.ensures ∙ c.if-not-is_good.false))
-
-pub overflow_add-result : goal.overflow_add-result
-unfolding rank_answer rank_of
-overflow_add-result c = omega (arith, board_range 9 _ (sym c.is_good.ensures ∙ c.if-not-is_good.false))
+pub returns-in_err-from_zero : goal.returns-in_err-from_zero
+unfolding rank_answer
+returns-in_err-from_zero c = number-passed _ _ _ c.from_zero.ensures _ _ c.in_err-from_zero.was c.from_residual.ensures.0
 
 pub returns : goal.returns
 unfolding rank_answer rank_of
-returns c = rw (sym c.is_good.ensures ∙ c.if-not-is_good.false)
+returns c = let t = told-good _ _ _ c.from_zero.ensures c.in_ok-from_zero.was in rw (t.0, t.1)
