@@ -2,7 +2,7 @@
 use Rattle.std.specs.Prelude.{ℕ, ◌≡◌}
 use Rattle.position.specs.declared.position.Position.{Position}
 use Rattle.position.specs.declared.answers.Told.{Told}
-use Rattle.position.specs.declared.answers.Answer.{Answer}
+use Rattle.position.specs.Answers.{Answer}
 
 -- a is the answer of the call by value on the position at entry. "The firmware lends its position and finds it changed in
 -- place; that entry sits on top of the one by value"; "Every number but 0 hands back the position as given"

@@ -1,7 +1,7 @@
 -- Lists of sets compared with one another, and with what stands on a square.
 use mathlib.Core.Path.{◌≡◌, refl, sym, ap, ap₂, ◌∙◌}
 use Prim.Native.Nat.{ℕ, zero, suc, ◌+◌, ◌≤◌, ◌<◌}
-use mathlib.Core.Bool.{Bool, true, false, ◌||◌, not, beq, or-true, or-false, true≢false, false≢true}
+use mathlib.Core.Bool.{Bool, true, false, ◌||◌, not, beq, or-true, true≢false, false≢true}
 use mathlib.Core.Logic.{⊎_elim}
 use mathlib.Core.List.{List}
 use native.Mathlib.Omega.{arith}
@@ -30,10 +30,6 @@ unfolding any_below
 any_at f k zero h e = absurd (omega arith)
 any_at f k (suc n) h e =
     ⊎_elim (λ (p : n ≤ k). let z : n ≡ k = omega arith in rw (z, e)) (λ (p : k < n). rw (any_at f k n p e) (or-true (f n))) (le-or-lt n k)
-
-pub any_two : (f : ℕ → Bool) → f 0 ≡ false → f 1 ≡ any_below f 2
-unfolding any_below
-any_two f e = rw e (sym (or-false (f 1)))
 
 pub or_false_both : (a b : Bool) → a || b ≡ false → (a ≡ false) × (b ≡ false)
 or_false_both true b h = absurd (true≢false h)
@@ -96,13 +92,3 @@ pub disagrees_is : (sets : List Bitboard) (mark n j : ℕ) (d : Bitboard) → j 
     → not (beq (has (get_or sets j d) n) (eqb mark (j + 1))) ≡ disagrees sets mark n j
 unfolding disagrees
 disagrees_is sets mark n j d h = ap (λ (b : Bitboard). not (beq (has b n) (eqb mark (j + 1)))) (get_d_any sets j d empty_s h)
-
-pub unlike-yes : (a b : Bool) → a ≡ true → not b ≡ not (beq a b)
-unlike-yes true true e = refl
-unlike-yes true false e = refl
-unlike-yes false b e = absurd (false≢true e)
-
-pub unlike-no : (a b : Bool) → a ≡ false → b ≡ not (beq a b)
-unlike-no false true e = refl
-unlike-no false false e = refl
-unlike-no true b e = absurd (true≢false e)

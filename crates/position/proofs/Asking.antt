@@ -5,65 +5,103 @@ use mathlib.Core.Bool.{Bool, true, false, not, ◌&&◌, ◌||◌, cond}
 use mathlib.Core.Logic.{⊎_elim}
 use mathlib.Core.List.{List}
 use native.Mathlib.Omega.{arith}
+use Rattle.std.specs.Prelude.{Option, Result, Ok, Err, IsErrAnd}
+use Rattle.std.proofs.lemmas.Result.{err_from_is_err_and}
 use native.Mathlib.Decide.{ℕ_discrete}
 use lib.ListN.{length, get_or}
 use lib.Dec.{eqb, leb}
-use borrow.Author.Tests.{eq-eqb, ne_eqb, eqb-true, eqb-false, leb-true, not-true, not-false}
+use borrow.Author.Tests.{eq-eqb, ne_eqb, eqb-false, leb-true, not-true}
 use Rattle.squares.specs.declared.bitboard.Bitboard.{Bitboard}
-use Rattle.squares.specs.Board.{on_board}
 use Rattle.squares.specs.Kinds.{good_colour, good_kind, good_piece, good_cell, colour_of, kind_of}
 use Rattle.squares.specs.Sets.{set_of, empty_s, and_s, or_s, not_s}
-use Rattle.squares.proofs.Laws.{both, decided, good-cells, le-or-lt, board_range, get_d_any, set_of_cong, and_rules, or_rules, not_rule, colour_range, kind_range, piece_low_bound, black_colour, white_colour, piece_by, family_at}
+use Rattle.squares.proofs.Laws.{both, good-cells, le-or-lt, board_range, get_d_any, set_of_cong, and_rules, or_rules, not_rule, colour_range, kind_range, piece_low_bound, black_colour, white_colour, piece_by, family_at}
 use Rattle.position.specs.Machine.{Sized, cell_at, family, king_square}
 use Rattle.position.specs.Sound.{any_below, stray_in, king_wrong, first_fault, fault_elsewhere, sound}
-use Rattle.position.specs.Inner.{Tidy, mark_set, told_set}
-use Rattle.position.specs.Answers.{first_fact, told_by, query_facts, told_query, answered, stood, piece_at_answer, set_answer, side_answer, ply_answer, hand_at, good_hand_kind, hand_answer, king_at, king_answer, last_move, last_answer}
+use Rattle.position.specs.Inner.{Tidy, mark_set}
+use Rattle.position.specs.Answers.{ToldPiece, ToldKing, ToldLast, done, told_of, first_fact, told_by, query_facts, told_query, answered, good_hand_kind}
 use Rattle.position.specs.declared.position.Position.{Position}
 use Rattle.position.specs.declared.answers.Told.{Told}
-use Rattle.position.specs.declared.answers.Stands.{Stands}
-use Rattle.position.specs.declared.answers.Stands.TheVariants as Stand
-use Rattle.position.specs.declared.answers.KingSquare.{KingSquare}
-use Rattle.position.specs.declared.answers.KingSquare.TheVariants as King
-use Rattle.position.specs.declared.mv.LastMove.{LastMove}
-use Rattle.position.specs.declared.mv.LastMove.TheVariants as Last
+use Rattle.position.specs.declared.answers.ToldSet.{ToldSet}
+use Rattle.position.specs.declared.answers.ToldNumber.{ToldNumber}
+use Rattle.position.specs.declared.answers.ToldPly.{ToldPly}
+use Rattle.position.specs.declared.mv.Move.{Move}
+use Rattle.position.specs.declared.answers.Refusal.{Refusal}
+use Rattle.position.specs.declared.answers.Refusal.TheVariants as Refused
 use Rattle.position.proofs.Tidiness.{sound-tidy}
 use Rattle.position.proofs.Kings.{king_is, king_square_lem}
 use Rattle.position.proofs.Agree.{or_false_both}
 
--- ---- the number that comes before the value
-pub heard_as : (p : Position) (t : Told) (b good : Bool) → t ≡ told_query (not b) p → b ≡ good → t ≡ told_query (not good) p
-heard_as p t b good e g = e ∙ ap (λ (x : Bool). told_query (not x) p) g
+-- a refusal has a number
+pub refusal_number : (r : Refusal) → (told_of r).number ≡ 0 → ⊥
+refusal_number (Refused.NotSound n) = eqb-false 1 0 refl
+refusal_number Refused.BadNumber = eqb-false 2 0 refl
+refusal_number Refused.NothingThere = eqb-false 3 0 refl
+refusal_number Refused.OtherSide = eqb-false 4 0 refl
+refusal_number Refused.NoPromotedForm = eqb-false 5 0 refl
+refusal_number Refused.OwnPiece = eqb-false 6 0 refl
+refusal_number Refused.TakesKing = eqb-false 7 0 refl
+refusal_number Refused.PromotedDrop = eqb-false 8 0 refl
+refusal_number Refused.Occupied = eqb-false 9 0 refl
+refusal_number Refused.NotInHand = eqb-false 10 0 refl
+refusal_number Refused.LastPly = eqb-false 11 0 refl
+refusal_number Refused.ShortBuffer = eqb-false 12 0 refl
+refusal_number Refused.EditNotSound = eqb-false 13 0 refl
 
-module _ (p : Position) (bad : Bool) (t : Told) (e : t ≡ told_query bad p) where
-  pub refused : (t.number ≡ 0 → ⊥) → answered bad p ≡ false
+module _ (p : Position) (bad : Bool) where
+  -- where a query is refused, and where it is not
+  pub refused : (r : Refusal) → told_of r ≡ told_query bad p → answered bad p ≡ false
   unfolding told_query told_by answered
-  refused h = ne_eqb _ 0 (λ z. h (ap (λ (x : Told). x.number) e ∙ z))
+  refused r e = ne_eqb _ 0 (λ z. refusal_number r (ap (λ (x : Told). x.number) e ∙ z))
 
-  pub done : t.number ≡ 0 → answered bad p ≡ true
-  unfolding told_query told_by answered
-  done h = eq-eqb _ 0 (sym (ap (λ (x : Told). x.number) e) ∙ h)
+  module _ (e : done ≡ told_query bad p) where
+    pub passes : answered bad p ≡ true
+    unfolding told_query told_by answered
+    passes = eq-eqb _ 0 (sym (ap (λ (x : Told). x.number) e))
 
-  facts : t.number ≡ 0 → (bad ≡ false) × (sound p ≡ true)
-  unfolding told_query told_by query_facts first_fact
-  facts h = go bad (sound p) (sym (ap (λ (x : Told). x.number) e) ∙ h)
-    where
-      go : (b s : Bool) → ◌≡◌ {A = ℕ} (cond b 2 (cond (not s) 1 0)) 0 → (b ≡ false) × (s ≡ true)
-      go true s z = absurd (omega arith)
-      go false false z = absurd (omega arith)
-      go false true z = (refl, refl)
+    facts : (bad ≡ false) × (sound p ≡ true)
+    unfolding told_query told_by query_facts first_fact
+    facts = go bad (sound p) (sym (ap (λ (x : Told). x.number) e))
+      where
+        go : (b s : Bool) → ◌≡◌ {A = ℕ} (cond b 2 (cond (not s) 1 0)) 0 → (b ≡ false) × (s ≡ true)
+        go true s z = absurd (omega arith)
+        go false false z = absurd (omega arith)
+        go false true z = (refl, refl)
 
-  pub done_good : t.number ≡ 0 → bad ≡ false
-  done_good h = (facts h).0
+    pub passes_good : bad ≡ false
+    passes_good = facts.0
 
-  pub done_sound : t.number ≡ 0 → sound p ≡ true
-  done_sound h = (facts h).1
+    pub passes_sound : sound p ≡ true
+    passes_sound = facts.1
 
-  -- a set is answered where no number refuses
-  pub set_told : (test : ℕ → Bool) (s : Bitboard) → (bad ≡ false → sound p ≡ true → s ≡ set_of (λ n. test (cell_at p.board n))) → told_set t s ≡ set_answer bad test p
-  unfolding told_set set_answer
-  set_told test s h =
-      ⊎_elim (λ (z : eqb t.number 0 ≡ true). let n = eqb-true t.number 0 z in rw (z, done n, ← e, h (done_good n) (done_sound n)))
-      (λ (z : eqb t.number 0 ≡ false). rw (z, refused (eqb-false t.number 0 z), ← e)) (decided (eqb t.number 0))
+-- ---- an answer made of what is told and a value
+abbrev pub piece : Told → Option ℕ → ToldPiece
+piece t v = record { told = t; stands = v }
+
+abbrev pub king : Told → Option ℕ → ToldKing
+king t v = record { told = t; king = v }
+
+abbrev pub last : Told → Option Move → ToldLast
+last t v = record { told = t; last = v }
+
+abbrev pub number : Told → ℕ → ToldNumber
+number t v = record { told = t; value = v }
+
+abbrev pub ply : Told → ℕ → ToldPly
+ply t v = record { told = t; ply = v }
+
+abbrev pub squares : Told → Bitboard → ToldSet
+squares t v = record { told = t; set = v }
+
+-- ---- the answer of a query: what it tells, and its value or, where it is refused, `none`
+module _ {A V B : Type 0} (given : Result A Refusal → B) (build : Told → V → B) (none : V) (p : Position) (bad : Bool) (value : V) where
+  pub query_refused : ((r : Refusal) → given (Err r) ≡ build (told_of r) none) → (a : Result A Refusal) (r : Refusal) → IsErrAnd a (λ (y : Refusal). y ≡ r)
+      → told_of r ≡ told_query bad p → given a ≡ build (told_query bad p) (cond (answered bad p) value none)
+  query_refused err a r is e =
+      let i = err_from_is_err_and a is in
+      rw (i.1, i.2, refused p bad r e) (err r ∙ ap (λ (t : Told). build t none) e)
+
+  pub query_done : (v : A) → done ≡ told_query bad p → given (Ok v) ≡ build done value → given (Ok v) ≡ build (told_query bad p) (cond (answered bad p) value none)
+  query_done v e is = rw (passes p bad e) (is ∙ ap (λ (t : Told). build t value) e)
 
 -- ---- a cell with a colour is not empty
 colour_none : (x : ℕ) → good_cell x ≡ true → eqb (colour_of x) 1 || eqb (colour_of x) 2 ≡ not (eqb x 0)
@@ -84,7 +122,7 @@ unfolding mark_set
 mark_at sets k d l h = get_d_any sets (k - 1) d empty_s (omega arith)
 
 -- ---- a piece has a colour
-piece_colour : (v : ℕ) → good_piece v ≡ true → good_colour (colour_of v) ≡ true
+pub piece_colour : (v : ℕ) → good_piece v ≡ true → good_colour (colour_of v) ≡ true
 unfolding good_colour
 piece_colour v g =
     ⊎_elim (λ (h : v ≤ 16). rw (black_colour v (piece_low_bound v g) h)) (λ (h : 16 < v). rw (white_colour v h)) (le-or-lt v 16)
@@ -100,13 +138,11 @@ module _ (p : Position) (z : Sized p) (s : sound p ≡ true) where
   pub kind-set : (k : ℕ) → good_kind k ≡ true → mark_set p.kinds k ≡ set_of (λ n. eqb (kind_of (cell_at p.board n)) k)
   kind-set k g = let r = kind_range k g in mark_set_lem kind_of 14 p.board p.kinds k tidy.kinds r.0 r.1
 
-  -- a piece's set, by its colour i and its kind j
-  pub piece-set : (v : ℕ) → good_piece v ≡ true → (i j : ℕ) (a b : Bitboard) → i ≡ colour_of v → (good_colour i ≡ true → a ≡ mark_set p.players i)
-      → j ≡ kind_of v → (good_kind j ≡ true → b ≡ mark_set p.kinds j) → and_s a b ≡ set_of (λ n. eqb (cell_at p.board n) v)
+  -- a piece's set, by its colour and its kind
+  pub piece-set : (v : ℕ) → good_piece v ≡ true → and_s (mark_set p.players (colour_of v)) (mark_set p.kinds (kind_of v)) ≡ set_of (λ n. eqb (cell_at p.board n) v)
   unfolding good_piece
-  piece-set v g i j a b ei ea ej eb =
-      let c : good_colour (colour_of v) ≡ true = piece_colour v g in
-      ap₂ and_s (ea (ap good_colour ei ∙ c) ∙ ap (mark_set p.players) ei ∙ colour_set (colour_of v) c) (eb (ap good_kind ej ∙ g) ∙ ap (mark_set p.kinds) ej ∙ kind-set (kind_of v) g)
+  piece-set v g =
+      ap₂ and_s (colour_set (colour_of v) (piece_colour v g)) (kind-set (kind_of v) g)
       ∙ and_rules (λ n. eqb (colour_of (cell_at p.board n)) (colour_of v)) (λ n. eqb (kind_of (cell_at p.board n)) (kind_of v))
       ∙ set_of_cong (λ n. eqb (colour_of (cell_at p.board n)) (colour_of v) && eqb (kind_of (cell_at p.board n)) (kind_of v)) (λ n. eqb (cell_at p.board n) v)
       (λ n o. let r = board_range 9 n o in piece_by (cell_at p.board n) v (tidy.cells n r.0 r.1) g)
@@ -160,61 +196,3 @@ hand_range c k g =
     let r = colour_range c b.0 in
     let l = both (leb 1 k) (leb k 7) b.1 in
     (r.0, r.1, leb-true 1 k l.0, leb-true k 7 l.1)
-
--- ---- the answers, refused or with their value
-module _ (p : Position) (t : Told) where
-  module _ (n : ℕ) (e : t ≡ told_query (not (on_board 9 n)) p) where
-    pub piece-refused : (t.number ≡ 0 → ⊥) → record { told = t; stands = Stand.Nothing } ≡ piece_at_answer p n
-    unfolding piece_at_answer
-    piece-refused h = rw (refused p _ t e h, ← e)
-
-    pub piece_done : (v : Stands) → t.number ≡ 0 → v ≡ stood (cell_at p.board n) → record { told = t; stands = v } ≡ piece_at_answer p n
-    unfolding piece_at_answer
-    piece_done v h q = rw (done p _ t e h, ← e, q)
-
-  module _ (c k : ℕ) (e : t ≡ told_query (not (good_colour c && good_hand_kind k)) p) where
-    pub hand-refused : (t.number ≡ 0 → ⊥) → record { told = t; value = 0 } ≡ hand_answer p c k
-    unfolding hand_answer
-    hand-refused h = rw (refused p _ t e h, ← e)
-
-    pub hand_done : (v : ℕ) → t.number ≡ 0 → v ≡ get_or p.hands (hand_at c k) 0 → record { told = t; value = v } ≡ hand_answer p c k
-    unfolding hand_answer
-    hand_done v h q = rw (done p _ t e h, ← e, q)
-
-    pub hand-numbers : t.number ≡ 0 → (1 ≤ c) × (c ≤ 2) × (1 ≤ k) × (k ≤ 7)
-    hand-numbers h = hand_range c k (not-false _ (done_good p _ t e h))
-
-  module _ (c : ℕ) (e : t ≡ told_query (not (good_colour c)) p) where
-    pub king_refused : (t.number ≡ 0 → ⊥) → record { told = t; king = King.Nothing } ≡ king_answer p c
-    unfolding king_answer
-    king_refused h = rw (refused p _ t e h, ← e)
-
-    pub king_done : (v : KingSquare) (q : ℕ) → t.number ≡ 0 → v ≡ king_at q → q ≡ cond (eqb c 1) p.bking p.wking → record { told = t; king = v } ≡ king_answer p c
-    unfolding king_answer
-    king_done v q h shown is =
-        rw (done p _ t e h, ← e, shown, is ∙ own_king p c (done_sound p _ t e h) (not-false _ (done_good p _ t e h)))
-
-  module _ (e : t ≡ told_query false p) where
-    pub side-refused : (t.number ≡ 0 → ⊥) → record { told = t; value = 0 } ≡ side_answer p
-    unfolding side_answer
-    side-refused h = rw (refused p _ t e h, ← e)
-
-    pub side_done : t.number ≡ 0 → record { told = t; value = p.side } ≡ side_answer p
-    unfolding side_answer
-    side_done h = rw (done p _ t e h, ← e)
-
-    pub ply-refused : (t.number ≡ 0 → ⊥) → record { told = t; ply = 0 } ≡ ply_answer p
-    unfolding ply_answer
-    ply-refused h = rw (refused p _ t e h, ← e)
-
-    pub ply_done : t.number ≡ 0 → record { told = t; ply = p.ply } ≡ ply_answer p
-    unfolding ply_answer
-    ply_done h = rw (done p _ t e h, ← e)
-
-    pub last-refused : (t.number ≡ 0 → ⊥) → record { told = t; last = Last.Nothing } ≡ last_answer p
-    unfolding last_answer
-    last-refused h = rw (refused p _ t e h, ← e)
-
-    pub last_done : (v : LastMove) → t.number ≡ 0 → v ≡ last_move p.last → record { told = t; last = v } ≡ last_answer p
-    unfolding last_answer
-    last_done v h q = rw (done p _ t e h, ← e, q)

@@ -1,109 +1,71 @@
 -- The edits: the answer that goes with each number, the position that an edit makes, and what holds of every edit.
 use mathlib.Core.Path.{◌≡◌, refl, sym, ap, ◌∙◌}
-use mathlib.Core.Logic.{◌⊎◌, inl, inr}
 use Prim.Native.Nat.{ℕ, zero, suc, ◌+◌, ◌-◌, ◌≤◌, ◌<◌}
 use mathlib.Core.Bool.{Bool, true, false, not, ◌&&◌, cond, true≢false}
-use mathlib.Core.List.{List}
+use mathlib.Core.List.{List, [], ◌∷◌}
+use Rattle.std.specs.Prelude.{Ok, Err}
 use native.Mathlib.Omega.{arith}
 use lib.ListN.{get_or, set}
 use lib.Dec.{eqb}
-use borrow.Author.Tests.{eq-eqb, ne_eqb, eqb-true, not-false}
+use borrow.Author.Tests.{ne_eqb, not-false}
 use Rattle.squares.specs.declared.bitboard.Bitboard.{Bitboard}
 use Rattle.squares.specs.Board.{on_board, file_of, rank_of}
 use Rattle.squares.specs.declared.marks.Marks.{Marks}
 use Rattle.squares.specs.Bit.{digit}
 use Rattle.squares.specs.Kinds.{good_colour, good_cell, good_piece, good_kind, colour_of, kind_of}
 use Rattle.squares.specs.Sets.{set_of, and_s, has, smallest, first_of, count_of, all_good}
-use Rattle.squares.specs.Answers.{pop_answer, marks_answer}
-use Rattle.squares.proofs.Laws.{both, decided, board_range, board_on, has-set_of, pop-square, pop_nothing, smallest_at, smallest-none, all_good_lem, good_all, marks-players, marks-kinds}
+use Rattle.squares.specs.Answers.{pop_answer, marks_given, marks_answer}
+use Rattle.squares.proofs.Laws.{both, board_range, board_on, has-set_of, pop-square, pop_nothing, smallest_at, smallest-none, all_good_lem, good_all, marks-players, marks-kinds}
 use Rattle.position.specs.Machine.{Machine, machine, full, tab, cell_at, family, king_square, empty_position, start_ranks, start_cells, start_position}
 use Rattle.position.specs.Sound.{good_ply, sound, first_fault}
-use Rattle.position.specs.Answers.{first_fact, told_by, query_facts, told_query, soundness_told}
+use Rattle.position.specs.Answers.{done, told_of, answer_given, gives, first_fact, told_by, query_facts, told_query, soundness_told}
 use Rattle.position.specs.Edits.{edit_facts, edited, with_cells, with_side, with_ply, side_edited, ply_edited}
-use Rattle.position.specs.Inner.{AllGood, Tidy, told_after, settled}
+use Rattle.position.specs.Inner.{AllGood, Tidy, if_sound}
 use Rattle.position.specs.declared.position.Position.{Position}
 use Rattle.position.specs.declared.mv.MoveNumbers.{MoveNumbers}
 use Rattle.position.specs.declared.answers.Told.{Told}
-use Rattle.position.specs.declared.answers.Answer.{Answer}
+use Rattle.position.specs.declared.answers.Refusal.{Refusal}
+use Rattle.position.specs.declared.answers.Refusal.TheVariants.{EditNotSound}
 use Rattle.position.proofs.Tidiness.{black_kings, white_kings, sound-tidy}
+use Rattle.position.proofs.Asking.{refusal_number, passes_good, passes_sound}
+use Rattle.position.proofs.Ladder.{first_refuses}
 use Rattle.position.proofs.InOrder.{Sized, sound-full, sound_order, order_sound}
 use Rattle.position.proofs.Kept.{store-good}
 use Rattle.position.proofs.Exact.{Given, None, given_first, first_given, none_first, first_none}
 
--- ---- the answer of an edit that makes q of p, where t is told of the numbers and of p
-module _ (bad : Bool) (p : Position) (m : Machine) (t : Told) (e : t ≡ told_query bad p) (q : Position) (made : t.number ≡ 0 → q ≡ full m) where
-  -- with what follows asked
-  asked : settled (told_after t q) p q ≡ edited bad p m
-  unfolding edited edit_facts told_query told_by query_facts first_fact settled told_after
-  asked = by bad (sound p) e
-    where
-      by : (a s : Bool) → t ≡ record { number = cond a 2 (cond (not s) 1 0); square = cond (eqb (cond a 2 (cond (not s) 1 0)) 1) (first_fault p) 0 }
-          → ◌≡◌ {A = Answer}
-          (record {
-            told = cond (eqb t.number 0 && not (sound q)) (record { number = 13; square = 0 }) t;
-            position = cond (eqb (cond {A = Told} (eqb t.number 0 && not (sound q)) (record { number = 13; square = 0 }) t).number 0) q p;
-          })
-          (record {
-            told = record {
-              number = cond a 2 (cond (not s) 1 (cond (not (sound (full m))) 13 0));
-              square = cond (eqb (cond a 2 (cond (not s) 1 (cond (not (sound (full m))) 13 0))) 1) (first_fault p) 0;
-            };
-            position = cond (eqb (cond a 2 (cond (not s) 1 (cond (not (sound (full m))) 13 0))) 0) (full m) p;
-          })
-      by true s e = rw e
-      by false false e = rw e
-      by false true e = rw (e, made (ap (λ (x : Told). x.number) e)) (last (sound (full m)))
-        where
-          last : (b : Bool)
-              → ◌≡◌ {A = Answer}
-              (record {
-                told = cond (not b) (record { number = 13; square = 0 }) (record { number = 0; square = 0 });
-                position = cond (eqb (cond {A = Told} (not b) (record { number = 13; square = 0 }) (record { number = 0; square = 0 })).number 0) (full m) p;
-              })
-              (record {
-                told = record { number = cond (not b) 13 0; square = cond (eqb (cond (not b) 13 0) 1) (first_fault p) 0 };
-                position = cond (eqb (cond (not b) 13 0) 0) (full m) p;
-              })
-          last true = refl
-          last false = refl
+-- ---- the answer of an edit that makes q of p
+module _ (bad : Bool) (p : Position) (m : Machine) where
+  pub edit_refused : (r : Refusal) → told_of r ≡ told_query bad p → answer_given p (Err r) ≡ edited bad p m
+  unfolding edited edit_facts
+  edit_refused r e = first_refuses p bad (gives 13 (not (sound (full m))) ∷ []) (full m) r e
 
-  pub edit_asked : (r : Told) → r ≡ told_after t q → settled r p q ≡ edited bad p m
-  edit_asked r f = ap (λ (x : Told). settled x p q) f ∙ asked
+  module _ (e : done ≡ told_query bad p) (q : Position) (made : q ≡ full m) where
+    -- with what follows asked
+    pub edit_asked : answer_given p (if_sound q) ≡ edited bad p m
+    unfolding edited edit_facts told_by first_fact
+    edit_asked = rw (passes_good p bad e, passes_sound p bad e, made) (by (sound (full m)))
+      where
+        by : (s : Bool) → answer_given p (cond s (Ok (full m)) (Err EditNotSound))
+            ≡ record { told = record { number = cond (not s) 13 0; square = cond (eqb (cond (not s) 13 0) 1) (first_fault p) 0 }; position = cond (eqb (cond (not s) 13 0) 0) (full m) p }
+        by true = refl
+        by false = refl
 
-  -- what follows is sound: no need to ask
-  pub edit_sure : (t.number ≡ 0 → sound (full m) ≡ true) → settled t p q ≡ edited bad p m
-  unfolding told_after
-  edit_sure sure = edit_asked t (never (decided (eqb t.number 0)))
-    where
-      never : (eqb t.number 0 ≡ true) ⊎ (eqb t.number 0 ≡ false) → t ≡ cond (eqb t.number 0 && not (sound q)) (record { number = 13; square = 0 }) t
-      never (inl z) = let n = eqb-true t.number 0 z in rw (z, made n, sure n)
-      never (inr z) = rw z
+    -- what follows is sound: no need to ask
+    pub edit_sure : sound (full m) ≡ true → answer_given p (Ok q) ≡ edited bad p m
+    edit_sure sure = let s : sound q ≡ true = ap sound made ∙ sure in rw s at edit_asked
 
 -- ---- what would follow, asked
-pub after-refused : (t : Told) (q : Position) → (t.number ≡ 0 → ⊥) → t ≡ told_after t q
-unfolding told_after
-after-refused t q d = rw (ne_eqb t.number 0 d)
+pub asked_unsound : (q : Position) (r : Refusal) → told_of r ≡ soundness_told q → Err EditNotSound ≡ if_sound q
+unfolding soundness_told told_query told_by query_facts first_fact
+asked_unsound q r e = by (sound q) (λ z. refusal_number r (ap (λ (x : Told). x.number) e ∙ z))
+  where
+    by : (s : Bool) → (◌≡◌ {A = ℕ} (cond (not s) 1 0) 0 → ⊥) → Err EditNotSound ≡ cond s (Ok q) (Err EditNotSound)
+    by true d = absurd (d refl)
+    by false d = refl
 
-module _ (t f : Told) (q : Position) (e : f ≡ soundness_told q) where
-  found_is : f.number ≡ cond (not (sound q)) 1 0
-  unfolding soundness_told told_query told_by query_facts first_fact
-  found_is = ap (λ (x : Told). x.number) e
-
-  pub after_unsound : t.number ≡ 0 → (f.number ≡ 0 → ⊥) → record { number = 13; square = 0 } ≡ told_after t q
-  unfolding told_after
-  after_unsound z d = rw (eq-eqb t.number 0 z) (by (sound q) found_is)
-    where
-      by : (b : Bool) → f.number ≡ cond (not b) 1 0 → record { number = 13; square = 0 } ≡ cond (not b) (record { number = 13; square = 0 }) t
-      by true g = absurd (d g)
-      by false g = refl
-
-  pub after-sound : t.number ≡ 0 → f.number ≡ 0 → t ≡ told_after t q
-  unfolding told_after
-  after-sound z g = rw (eq-eqb t.number 0 z) (by (sound q) found_is)
-    where
-      by : (b : Bool) → f.number ≡ cond (not b) 1 0 → t ≡ cond (not b) (record { number = 13; square = 0 }) t
-      by true h = refl
-      by false h = absurd (omega arith)
+pub asked_sound : (q : Position) → done ≡ soundness_told q → Ok q ≡ if_sound q
+unfolding soundness_told
+asked_sound q e = rw (passes_sound q false e)
 
 -- ---- a sound position with other hands, side or ply
 abbrev with_others : Position → List ℕ → ℕ → MoveNumbers → ℕ → Position
@@ -144,12 +106,12 @@ first_king cells king =
     first_cong (has (set_of (λ n. eqb (cell_at cells n) king))) (λ n. eqb (cell_at cells n) king) 1 81 (λ n a b.
     has-set_of (λ m. eqb (cell_at cells m) king) n ∙ ap (λ (t : Bool). t && eqb (cell_at cells n) king) (board_on 9 n a (omega arith)))
 
-module _ (p : Position) (cells : List ℕ) (good : AllGood cells) (r : Marks) (of : r ≡ marks_answer cells) where
+module _ (p : Position) (cells : List ℕ) (good : AllGood cells) (r : Marks) (of : marks_given (Ok r) ≡ marks_answer cells) where
   players_are : r.players ≡ family colour_of 2 cells
-  players_are = marks-players cells r of (good_all cells good)
+  players_are = marks-players cells _ of (good_all cells good)
 
   kinds_are : r.kinds ≡ family kind_of 14 cells
-  kinds_are = marks-kinds cells r of (good_all cells good)
+  kinds_are = marks-kinds cells _ of (good_all cells good)
 
   abbrev made : Position
   made =

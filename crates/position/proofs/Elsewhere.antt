@@ -1,7 +1,7 @@
 -- The faults that are no cell's: kings, counts, the ply, the last move.
 use mathlib.Core.Path.{◌≡◌, refl, sym, ap, ◌∙◌}
 use Prim.Native.Nat.{ℕ, zero, suc, ◌+◌, ◌-◌, ◌≤◌, ◌<◌}
-use mathlib.Core.Bool.{Bool, true, false, ◌&&◌, not, or-false, and-true}
+use mathlib.Core.Bool.{Bool, true, false, ◌&&◌, not, or-false}
 use mathlib.Core.List.{List}
 use native.Mathlib.Omega.{arith}
 use lib.ListN.{get_or}
@@ -12,7 +12,7 @@ use Rattle.squares.specs.declared.bitboard.Bitboard.{Bitboard}
 use Rattle.squares.specs.Board.{on_board}
 use Rattle.squares.specs.Kinds.{kind_row, good_piece}
 use Rattle.squares.specs.Sets.{size, is_empty, smallest}
-use Rattle.squares.specs.Answers.{promoted_answer, pop_answer}
+use Rattle.squares.specs.Answers.{FormValue, promoted_answer, pop_answer}
 use Rattle.squares.proofs.Laws.{both, eqb_same, promoted-small, promoted-value, promoted-some, empty-size, pop-square, pop_nothing, smallest_at, smallest-none, size_none}
 use Rattle.position.specs.Sound.{top_ply, good_ply, good_last}
 use Rattle.position.specs.Inner.{king_off, promoted_at, sets_size, over_by_sets}
@@ -45,11 +45,6 @@ pub ply-good : (n : ℕ) → 1 ≤ n → n ≤ top_ply → good_ply n ≡ true
 unfolding good_ply
 ply-good n l h = rw (le-leb 1 n l, le-leb n top_ply h)
 
--- the place of a ply has room for no number above the last
-pub ply-place : (n : ℕ) → n < 65536 → leb 1 n ≡ good_ply n
-unfolding good_ply top_ply
-ply-place n h = rw (le-leb n 65535 (omega arith)) (sym (and-true (leb 1 n)))
-
 pub ply-next : (n : ℕ) → good_ply n ≡ true → (n ≡ top_ply → ⊥) → good_ply (n + 1) ≡ true
 ply-next n h d = let below : n < top_ply = lt_of_le-ne (ply_range n h).1 d in ply-good (n + 1) (omega arith) (omega arith)
 
@@ -81,9 +76,9 @@ module _ (s : Bitboard) (q : ℕ) where
 
 -- ---- where a promoted kind's set stands
 module _ (j : ℕ) (small : j < 7) where
-  pub place_nothing : (n : ℕ) → record { number = n; found = false; value = 0 } ≡ promoted_answer (j + 1) → (j ≡ promoted_at j) × (j < 14)
+  pub place_nothing : (x : FormValue) → x ≡ promoted_answer (j + 1) → x.value ≡ 0 → (j ≡ promoted_at j) × (j < 14)
   unfolding promoted_at
-  place_nothing n e = (rw (eq-eqb _ 0 (sym (promoted-value (j + 1) _ e))), omega arith)
+  place_nothing x e none = (rw (eq-eqb _ 0 (sym (promoted-value (j + 1) _ e) ∙ none)), omega arith)
 
   pub place-form : (v : ℕ) → record { number = 0; found = true; value = v } ≡ promoted_answer (j + 1) → (v - 1 ≡ promoted_at j) × (v - 1 < 14)
   unfolding promoted_at

@@ -14,13 +14,14 @@ use Rattle.squares.specs.Kinds.{kind_row, kinds, hand_kind, good_piece, kind_of}
 use Rattle.squares.proofs.Laws.{both, le-or-lt, colour_range, limit-small, held_small}
 use Rattle.position.specs.Machine.{machine, cell_at}
 use Rattle.position.specs.Sound.{top_ply, sound}
-use Rattle.position.specs.Answers.{first_fact, stood}
+use Rattle.position.specs.declared.answers.Refusal.TheVariants.{NothingThere}
+use Rattle.position.specs.Answers.{told_of, first_fact, stood}
 use Rattle.position.specs.Moves.{bad_move, normal_facts, rule_facts, held}
 use Rattle.position.specs.Plans.{RoomFor, Holds, normal_plan, drop_plan, Playable}
-use Rattle.position.specs.Inner.{OnBoard}
+use Rattle.position.specs.Inner.{OnBoard, told_first}
 use Rattle.position.specs.declared.position.Position.{Position}
 use Rattle.position.specs.declared.mv.Move.TheVariants.{Normal, Drop}
-use Rattle.position.specs.declared.answers.Stands.TheVariants.{Nothing, Piece}
+use Rattle.std.specs.Prelude.{Some, None}
 use Rattle.position.proofs.InOrder.{Sized, sound_order}
 use Rattle.position.proofs.Pieces.{positive}
 use Rattle.position.proofs.Elsewhere.{ply_range}
@@ -28,7 +29,7 @@ use Rattle.position.proofs.Tallies.{hand_in}
 use Rattle.position.proofs.Ladder.{CanMove, CanDrop, on_board_lem}
 
 -- ---- what stands on a cell
-pub stood_nothing : (c : ℕ) → stood c ≡ Nothing → c ≡ 0
+pub stood_nothing : (c : ℕ) → stood c ≡ None → c ≡ 0
 unfolding stood
 stood_nothing c h = by (ℕ_discrete c 0)
   where
@@ -36,7 +37,7 @@ stood_nothing c h = by (ℕ_discrete c 0)
     by (yes e) = e
     by (no d) = let q = rw (ne_eqb c 0 d) at h in let z : ◌≡◌ {A = ℕ} 0 1 = cc in absurd (omega arith)
 
-pub stood-piece : (c x : ℕ) → stood c ≡ Piece x → (x ≡ c) × (c ≡ 0 → ⊥)
+pub stood-piece : (c x : ℕ) → stood c ≡ Some x → (x ≡ c) × (c ≡ 0 → ⊥)
 unfolding stood
 stood-piece c x h = by (ℕ_discrete c 0)
   where
@@ -59,7 +60,7 @@ unfolding bad_move
 drop-numbers piece to g = let o = both (good_piece piece) (on_board 9 to) (not-false _ g) in (o.0, on_board_lem to o.1)
 
 -- 3 refuses an empty from square
-pub empty-start : (p : Position) (from to : ℕ) (promote : Bool) → cell_at p.board from ≡ 0 → 3 ≡ first_fact (rule_facts (machine p) (Normal from to promote))
+pub empty-start : (p : Position) (from to : ℕ) (promote : Bool) → cell_at p.board from ≡ 0 → told_of NothingThere ≡ told_first (rule_facts (machine p) (Normal from to promote))
 unfolding first_fact rule_facts normal_facts machine
 empty-start p from to promote e = rw (eq-eqb (cell_at p.board from) 0 e)
 
@@ -95,11 +96,11 @@ module _ (p : Position) (s : Sized p) (h : sound p ≡ true) where
 
   pub normal-fits : (from to : ℕ) (promote : Bool) (c t : ℕ) (hands : List ℕ) → CanMove (machine p) from to promote → Playable p (normal_plan from to promote c t hands)
   unfolding machine normal_plan
-  normal-fits from to promote c t hands k = record { at_from = k.start; at_to = k.goal; side = λ z. sound-side.1; ply = λ z. early k.early }
+  normal-fits from to promote c t hands k = record { at_from = k.start; at_to = k.goal; side = sound-side.1; ply = early k.early }
 
   pub drop-fits : (piece to : ℕ) (hands : List ℕ) → CanDrop (machine p) piece to → Playable p (drop_plan piece to hands)
   unfolding machine drop_plan
-  drop-fits piece to hands k = record { at_from = k.goal; at_to = k.goal; side = λ z. sound-side.1; ply = λ z. early k.early }
+  drop-fits piece to hands k = record { at_from = k.goal; at_to = k.goal; side = sound-side.1; ply = early k.early }
 
   pub drop-held : (piece to : ℕ) → CanDrop (machine p) piece to → Holds p.hands p.side piece
   unfolding machine

@@ -3,6 +3,7 @@ use mathlib.Core.Path.{◌≡◌, refl, sym, ap, ◌∙◌}
 use Prim.Native.Nat.{ℕ, ◌≤◌, ◌<◌}
 use mathlib.Core.Bool.{Bool, true, false, not, ◌&&◌, cond}
 use mathlib.Core.List.{List, [], ◌∷◌}
+use Rattle.std.specs.Prelude.{Ok, Err}
 use native.Mathlib.Omega.{arith}
 use lib.Dec.{eqb}
 use lib.ListN.{get_or}
@@ -13,17 +14,18 @@ use Rattle.squares.specs.Kinds.{good_piece, colour_of, kind_of, promoted_piece}
 use Rattle.squares.proofs.Laws.{both, board_range, piece_kind}
 use Rattle.position.specs.Machine.{Machine, machine, full, cell_at}
 use Rattle.position.specs.Sound.{top_ply, sound, first_fault}
-use Rattle.position.specs.Answers.{Fact, first_fact, told_by, query_facts, told_query, hand_at}
+use Rattle.position.specs.Answers.{Answer, done, told_of, answer_given, Fact, gives, first_fact, told_by, query_facts, told_query, hand_at}
 use Rattle.position.specs.Moves.{bad_move, normal_facts, drop_facts, rule_facts, move_facts, next, move_played}
 use Rattle.position.specs.Plans.{Ready}
-use Rattle.position.specs.Inner.{OnBoard}
+use Rattle.position.specs.Inner.{OnBoard, told_first}
 use Rattle.position.specs.declared.position.Position.{Position}
 use Rattle.position.specs.declared.mv.Move.{Move}
 use Rattle.position.specs.declared.mv.Move.TheVariants.{Normal, Drop}
 use Rattle.position.specs.declared.answers.Told.{Told}
-use Rattle.position.specs.declared.answers.Answer.{Answer}
+use Rattle.position.specs.declared.answers.Refusal.{Refusal}
 use Rattle.position.proofs.Agree.{or_false_both}
 use Rattle.position.proofs.Pieces.{positive}
+use Rattle.position.proofs.Asking.{refusal_number, passes_good, passes_sound}
 
 -- ---- a move that no fact refuses
 pub record CanMove (m : Machine) (from to : ℕ) (promote : Bool) : Type 0 where
@@ -122,51 +124,48 @@ unfolding rule_facts normal_facts drop_facts
 never_one m (Normal from to promote) = first_free (rule_facts m (Normal from to promote)) 1 (eqb-false 1 0 refl) refl
 never_one m (Drop piece to) = first_free (rule_facts m (Drop piece to)) 1 (eqb-false 1 0 refl) refl
 
--- ---- the answer
+-- ---- the answer of a call whose first facts are those of a query, and that makes `after`
+abbrev by_facts : Position → Bool → List Fact → Position → Answer
+by_facts p bad rest after =
+    let facts = gives 2 bad ∷ gives 1 (not (sound p)) ∷ rest in
+    record { told = told_by p facts; position = cond (eqb (first_fact facts) 0) after p }
+
+-- 2 or 1 refuses: no later fact is asked
+pub first_refuses : (p : Position) (bad : Bool) (rest : List Fact) (after : Position) (r : Refusal) → told_of r ≡ told_query bad p
+    → answer_given p (Err r) ≡ by_facts p bad rest after
+unfolding told_query told_by query_facts first_fact
+first_refuses p bad rest after r e = by bad (not (sound p)) (told_of r) e (refusal_number r)
+  where
+    by : (a b : Bool) (t : Told) → t ≡ record { number = cond a 2 (cond b 1 0); square = cond (eqb (cond a 2 (cond b 1 0)) 1) (first_fault p) 0 } → (t.number ≡ 0 → ⊥)
+        → ◌≡◌ {A = Answer} (record { told = t; position = p })
+        (record {
+          told = record { number = cond a 2 (cond b 1 (first_fact rest)); square = cond (eqb (cond a 2 (cond b 1 (first_fact rest))) 1) (first_fault p) 0 };
+          position = cond (eqb (cond a 2 (cond b 1 (first_fact rest))) 0) after p;
+        })
+    by true b t e d = rw e
+    by false true t e d = rw e
+    by false false t e d = absurd (d (ap (λ (x : Told). x.number) e))
+
 module _ (p : Position) (m : Move) where
-  -- 2 or 1 refuses: the answer is what the soundness test told
-  pub told_refuses : (t : Told) → t ≡ told_query (bad_move m) p → (t.number ≡ 0 → ⊥) → record { told = t; position = p } ≡ move_played p m
-  unfolding move_played move_facts told_query told_by query_facts first_fact
-  told_refuses t e d = by (bad_move m) (not (sound p)) e d
-    where
-      by : (a b : Bool) → t ≡ record { number = cond a 2 (cond b 1 0); square = cond (eqb (cond a 2 (cond b 1 0)) 1) (first_fault p) 0 } → (t.number ≡ 0 → ⊥)
-          → ◌≡◌ {A = Answer} (record { told = t; position = p })
-          (record {
-            told = record {
-              number = cond a 2 (cond b 1 (first_fact (rule_facts (machine p) m)));
-              square = cond (eqb (cond a 2 (cond b 1 (first_fact (rule_facts (machine p) m)))) 1) (first_fault p) 0;
-            };
-            position = cond (eqb (cond a 2 (cond b 1 (first_fact (rule_facts (machine p) m)))) 0) (full (next (machine p) m)) p;
-          })
-      by true b e d = rw e
-      by false true e d = rw e
-      by false false e d = absurd (d (ap (λ (x : Told). x.number) e))
+  pub told_refuses : (r : Refusal) → told_of r ≡ told_query (bad_move m) p → answer_given p (Err r) ≡ move_played p m
+  unfolding move_played move_facts
+  told_refuses r e = first_refuses p (bad_move m) (rule_facts (machine p) m) (full (next (machine p) m)) r e
 
-  pub told_passes : (t : Told) → t ≡ told_query (bad_move m) p → t.number ≡ 0 → Ready p m
-  unfolding told_query told_by query_facts first_fact
-  told_passes t e z =
-      let a = none_of _ 2 _ (eqb-false 2 0 refl) (ap (λ (x : Told). x.number) (sym e) ∙ z) in
-      let b = none_of _ 1 _ (eqb-false 1 0 refl) a.1 in
-      record { good = a.0; whole = not-false _ b.0 }
-
-  -- no square goes with 0
-  pub told_clear : (t : Told) → t ≡ told_query (bad_move m) p → t.number ≡ 0 → t.square ≡ 0
-  unfolding told_query told_by
-  told_clear t e z =
-      let n : first_fact (query_facts (bad_move m) p) ≡ 0 = ap (λ (x : Told). x.number) (sym e) ∙ z in
-      ap (λ (x : Told). x.square) e ∙ rw n
+  pub told_passes : done ≡ told_query (bad_move m) p → Ready p m
+  told_passes e = record { good = passes_good p (bad_move m) e; whole = passes_sound p (bad_move m) e }
 
   module _ (r : Ready p m) where
     number_is : first_fact (move_facts p m) ≡ first_fact (rule_facts (machine p) m)
     unfolding move_facts first_fact
     number_is = rw (r.good, r.whole)
 
-    pub rule_refuses : (n : ℕ) → n ≡ first_fact (rule_facts (machine p) m) → (n ≡ 0 → ⊥)
-        → record { told = record { number = n; square = 0 }; position = p } ≡ move_played p m
+    pub rule_refuses : (f : Refusal) → told_of f ≡ told_first (rule_facts (machine p) m) → answer_given p (Err f) ≡ move_played p m
     unfolding move_played told_by
-    rule_refuses n e d = rw (number_is, ← e, ne_eqb n 1 (λ z. never_one (machine p) m (sym e ∙ z)), ne_eqb n 0 d)
+    rule_refuses f e =
+        let d : first_fact (rule_facts (machine p) m) ≡ 0 → ⊥ = λ z. refusal_number f (ap (λ (x : Told). x.number) e ∙ z) in
+        rw (number_is, ne_eqb _ 1 (never_one (machine p) m), ne_eqb _ 0 d) (ap (λ (t : Told). record { told = t; position = p }) e)
 
     pub rule_passes : (after : Position) → first_fact (rule_facts (machine p) m) ≡ 0 → after ≡ full (next (machine p) m)
-        → record { told = record { number = 0; square = 0 }; position = after } ≡ move_played p m
+        → answer_given p (Ok after) ≡ move_played p m
     unfolding move_played told_by
     rule_passes after z e = rw (number_is, z, e)

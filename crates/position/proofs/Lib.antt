@@ -7,6 +7,7 @@ mod Tidiness
 mod Stores
 mod InOrder
 mod Asking
+mod Once
 mod Pieces
 mod Kings
 mod Carrying

@@ -41,14 +41,14 @@ unlike c =
     let v = promoted_piece c in
     not (eqb v 0 || (good_piece v && (eqb (unkind v) (unkind c) && (not (eqb v 8) && not (eqb v 24)))))
 
-unlike-none : any_below unlike 31 ≡ false
+unlike_none : any_below unlike 31 ≡ false
 unfolding any_below unlike promoted_piece piece_of kind_row kinds good_piece good_kind colour_of kind_of
-unlike-none = refl
+unlike_none = refl
 
 promoted_lands : (c : ℕ) → c < 31 → (promoted_piece c ≡ 0 → ⊥) → Lands (promoted_piece c) c
 unfolding unlike
 promoted_lands c h d =
-    let b = both _ _ (or_right _ _ (ne_eqb (promoted_piece c) 0 d) (not-false _ (any_each unlike 31 c unlike-none h))) in
+    let b = both _ _ (or_right _ _ (ne_eqb (promoted_piece c) 0 d) (not-false _ (any_each unlike 31 c unlike_none h))) in
     let e = both _ _ b.1 in
     let f = both _ _ e.1 in
     record {

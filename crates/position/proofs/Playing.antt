@@ -1,66 +1,33 @@
 -- A plan carried out: what the code makes of it, and that it is the move that was planned.
-use mathlib.Core.Path.{◌≡◌, refl, sym, ap, ◌∙◌}
+use mathlib.Core.Path.{◌≡◌, sym, ap, ◌∙◌}
 use mathlib.Core.Logic.{⊎_elim}
 use Prim.Native.Nat.{ℕ, ◌-◌, ◌≤◌, ◌<◌}
 use mathlib.Core.Bool.{Bool, true, false, true≢false}
 use mathlib.Core.List.{List}
 use native.Mathlib.Omega.{arith}
+use Rattle.std.specs.Prelude.{Ok}
 use lib.ListN.{length, get_or, set}
-use borrow.Author.Tests.{ne_eqb, le-leb}
+use borrow.Author.Tests.{le-leb}
 use Rattle.squares.specs.declared.bitboard.Bitboard.{Bitboard}
 use Rattle.squares.specs.Kinds.{colour_of, kind_of, good_kind, good_piece}
 use Rattle.squares.specs.Sets.{single_s, xor_s}
-use Rattle.squares.proofs.Laws.{le-or-lt, empty_colour, black_kind, piece_kind}
+use Rattle.squares.proofs.Laws.{le-or-lt, empty_colour, piece_kind}
 use Rattle.position.specs.Machine.{cell_at}
+use Rattle.position.specs.Answers.{answer_given}
 use Rattle.position.specs.Moves.{arriving, numbers_of, move_played}
 use Rattle.position.specs.Inner.{OnBoard}
-use Rattle.position.specs.Plans.{toggled, refused_by, normal_plan, drop_plan, stored_by, toggled_at, played_by, Playable, MovePlan, with_sets}
+use Rattle.position.specs.Plans.{toggled, normal_plan, drop_plan, stored_by, toggled_at, played_by, Playable, MovePlan, with_sets}
 use Rattle.position.specs.declared.position.Position.{Position}
 use Rattle.position.specs.declared.plan.Plan.{Plan}
-use Rattle.position.specs.declared.answers.Answer.{Answer}
 use Rattle.position.specs.declared.mv.Move.{Move}
 use Rattle.position.specs.declared.mv.Move.TheVariants.{Normal, Drop}
 use Rattle.position.proofs.Stores.{sets_after, cell_same, cell_other, toggle_in, toggle-low, toggle-high}
 use Rattle.position.proofs.Pieces.{colour_in}
 use Rattle.position.proofs.Carrying.{carried}
 
--- ---- a plan that does nothing
-module _ (p : Position) (n : ℕ) (d : n ≡ 0 → ⊥) where
-  refused-fits : Playable p (refused_by n)
-  unfolding refused_by
-  refused-fits =
-      record {
-        at_from = record { low = omega arith; high = omega arith };
-        at_to = record { low = omega arith; high = omega arith };
-        side = λ z. absurd (d z);
-        ply = λ z. absurd (d z);
-      }
-
-  refused_plays : played_by p (refused_by n) ≡ p
-  unfolding refused_by played_by stored_by toggled_at toggled
-  refused_plays = rw (ne_eqb n 0 d, empty_colour, black_kind 0 (omega arith))
-
-pub plan_refuses : (p : Position) (m : Move) (square n : ℕ) (r : Plan) → r ≡ refused_by n → (n ≡ 0 → ⊥)
-    → record { told = record { number = n; square = square }; position = p } ≡ move_played p m → MovePlan p m square r
-unfolding refused_by
-plan_refuses p m square n r e d q = rw e (record { fits = refused-fits p n d; does = rw (refused_plays p n d) q })
-
 -- ---- the plan of a move
-abbrev told_with : Position → ℕ → Answer
-told_with p n = record { told = record { number = n; square = 0 }; position = p }
-
-pub plan-moves : (p : Position) (m : Move) (r plan : Plan) → r ≡ plan → plan.number ≡ 0 → Playable p plan
-    → record { told = record { number = 0; square = 0 }; position = played_by p plan } ≡ move_played p m → MovePlan p m 0 r
-plan-moves p m r plan e z f q =
-    rw e (record { fits = f; does = ap (told_with (played_by p plan)) z ∙ q })
-
-pub normal-number : (from to : ℕ) (promote : Bool) (c t : ℕ) (hands : List ℕ) → (normal_plan from to promote c t hands).number ≡ 0
-unfolding normal_plan
-normal-number from to promote c t hands = refl
-
-pub drop-number : (piece to : ℕ) (hands : List ℕ) → (drop_plan piece to hands).number ≡ 0
-unfolding drop_plan
-drop-number piece to hands = refl
+pub plan-moves : (p : Position) (m : Move) (r plan : Plan) → r ≡ plan → Playable p plan → answer_given p (Ok (played_by p plan)) ≡ move_played p m → MovePlan p m r
+plan-moves p m r plan e f q = rw e (record { fits = f; does = q })
 
 module _ (p : Position) (size : length p.board ≡ 81) where
   pub normal_plays : (from to : ℕ) (promote : Bool) (hands : List ℕ) → OnBoard from → OnBoard to → (from ≡ to → ⊥)
@@ -84,23 +51,23 @@ module _ (p : Position) (x n : ℕ) where
   abbrev pub Coloured : Position → Type 0
   Coloured q = q ≡ with_sets p (toggled p.players (colour_of x) (single_s n)) p.kinds
 
-  pub colour_toggled : (k : ℕ) (one d r : Bitboard) → length p.players ≡ 2 → (x ≡ 0 → ⊥) → one ≡ single_s n → k ≡ colour_of x → r ≡ xor_s (get_or p.players (k - 1) d) one
-      → Coloured (with_sets p (set p.players (k - 1) r) p.kinds)
-  colour_toggled k one d r size full e ek er =
+  pub colour_toggled : (k at : ℕ) (one d r : Bitboard) → at ≡ k - 1 → length p.players ≡ 2 → (x ≡ 0 → ⊥) → one ≡ single_s n → k ≡ colour_of x
+      → r ≡ xor_s (get_or p.players at d) one → Coloured (with_sets p (set p.players at r) p.kinds)
+  colour_toggled k at one d r there size full e ek er =
       let c = colour_in x full in
-      ap (λ (l : List Bitboard). with_sets p l p.kinds) (toggle_in p.players k one d r (omega arith) (omega arith) er ∙ rw (ek, e))
+      rw there (ap (λ (l : List Bitboard). with_sets p l p.kinds) (toggle_in p.players k one d r (omega arith) (omega arith) (rw there at er) ∙ rw (ek, e)))
 
   pub colour_same : x ≡ 0 → Coloured p
   unfolding toggled
   colour_same z = rw (z, empty_colour)
 
-  pub kind-toggled : (q : Position) (k : ℕ) (one d r : Bitboard) → Coloured q → length p.kinds ≡ 14 → good_piece x ≡ true → one ≡ single_s n → k ≡ kind_of x
-      → r ≡ xor_s (get_or q.kinds (k - 1) d) one
-      → with_sets q q.players (set q.kinds (k - 1) r) ≡ toggled_at p x n
+  pub kind-toggled : (q : Position) (k at : ℕ) (one d r : Bitboard) → at ≡ k - 1 → Coloured q → length p.kinds ≡ 14 → good_piece x ≡ true → one ≡ single_s n
+      → k ≡ kind_of x → r ≡ xor_s (get_or q.kinds at d) one
+      → with_sets q q.players (set q.kinds at r) ≡ toggled_at p x n
   unfolding toggled_at
-  kind-toggled q k one d r h size good e ek er =
+  kind-toggled q k at one d r there h size good e ek er =
       let b = piece_kind x good in
-      rw (h, toggle_in p.kinds k one d r (omega arith) (omega arith) (rw h at er), ek, e)
+      rw (there, h, toggle_in p.kinds k one d r (omega arith) (omega arith) (rw (there, h) at er), ek, e)
 
   pub kind-same : (q : Position) → Coloured q → length p.kinds ≡ 14 → good_piece x ≡ false → q ≡ toggled_at p x n
   unfolding toggled_at

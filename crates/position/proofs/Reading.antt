@@ -31,36 +31,36 @@ module _ (f : ℕ → Bool) where
       let e : 81 - j ≡ suc (81 - (j + 1)) = omega arith in
       rw (e, add-one)
 
-  -- what is left to search
+  -- what is left to search: of a rank the files from this one down, and all later ranks
   unfoldable pub left : ℕ → ℕ → ℕ
-  left rank back = first_reading f ((rank - 1) * 9 + back) (81 - ((rank - 1) * 9 + back))
+  left rank file = first_reading f ((rank - 1) * 9 + (9 - file)) (81 - ((rank - 1) * 9 + (9 - file)))
 
-  pub left_all : left 1 0 ≡ first_reading f 0 81
+  pub left_all : left 1 9 ≡ first_reading f 0 81
   unfolding left
   left_all = refl
 
-  pub left_none : left 10 0 ≡ 0
+  pub left_none : left 10 9 ≡ 0
   unfolding left first_reading
   left_none = refl
 
-  pub left_line : (rank : ℕ) → 1 ≤ rank → left rank 9 ≡ left (rank + 1) 0
+  pub left_line : (rank : ℕ) → 1 ≤ rank → left rank 0 ≡ left (rank + 1) 9
   unfolding left
   left_line rank h = ap (λ (j : ℕ). first_reading f j (81 - j)) (omega arith)
 
-  module _ (rank back : ℕ) (lo : 1 ≤ rank) (hi : rank ≤ 9) (small : back < 9) where
-    at : reading_at ((rank - 1) * 9 + back) ≡ 9 * (9 - back) - 9 + rank
+  module _ (rank file : ℕ) (lo : 1 ≤ rank) (hi : rank ≤ 9) (some : 1 ≤ file) (small : file ≤ 9) where
+    at : reading_at ((rank - 1) * 9 + (9 - file)) ≡ 9 * file - 9 + rank
     at =
-        let m : ((rank - 1) * 9 + back) % 9 ≡ back = omega arith in
-        let d : ((rank - 1) * 9 + back) / 9 ≡ rank - 1 = omega arith in
-        reading_sum ((rank - 1) * 9 + back) (omega arith) ∙ rw (m, d) (omega arith)
+        let m : ((rank - 1) * 9 + (9 - file)) % 9 ≡ 9 - file = omega arith in
+        let d : ((rank - 1) * 9 + (9 - file)) / 9 ≡ rank - 1 = omega arith in
+        reading_sum ((rank - 1) * 9 + (9 - file)) (omega arith) ∙ rw (m, d) (omega arith)
 
-    pub left_here : f (9 * (9 - back) - 9 + rank) ≡ true → left rank back ≡ 9 * (9 - back) - 9 + rank
+    pub left_here : f (9 * file - 9 + rank) ≡ true → left rank file ≡ 9 * file - 9 + rank
     unfolding left
-    left_here e = first_step ((rank - 1) * 9 + back) (omega arith) ∙ rw (at, e)
+    left_here e = first_step ((rank - 1) * 9 + (9 - file)) (omega arith) ∙ rw (at, e)
 
-    pub left_next : f (9 * (9 - back) - 9 + rank) ≡ false → left rank back ≡ left rank (back + 1)
+    pub left_next : f (9 * file - 9 + rank) ≡ false → left rank file ≡ left rank (file - 1)
     unfolding left
-    left_next e = first_step ((rank - 1) * 9 + back) (omega arith) ∙ rw (at, e) (ap (λ (j : ℕ). first_reading f j (81 - j)) (omega arith))
+    left_next e = first_step ((rank - 1) * 9 + (9 - file)) (omega arith) ∙ rw (at, e) (ap (λ (j : ℕ). first_reading f j (81 - j)) (omega arith))
 
   -- ---- a search that finds nothing, and one that has nothing to find
   pub first_none : (j k : ℕ) → j + k ≤ 81 → first_reading f j k ≡ 0 → (i : ℕ) → i < k → f (reading_at (j + i)) ≡ false

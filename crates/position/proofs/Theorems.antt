@@ -14,14 +14,13 @@ use Rattle.squares.specs.Sets.{count_of, all_good}
 use Rattle.squares.proofs.Laws.{board_range, decided, all_good_lem}
 use Rattle.position.specs.Machine.{Machine, machine, full, tab, cell_at, no_move, empty_position, start_ranks, start_cells, start_position}
 use Rattle.position.specs.Sound.{sound, any_below, king_wrong, standing, top_ply, good_ply, good_last}
-use Rattle.position.specs.Answers.{first_fact, told_by, last_move}
+use Rattle.position.specs.Answers.{Answer, first_fact, told_by, last_move}
 use Rattle.position.specs.Moves.{bad_move, normal_facts, drop_facts, rule_facts, move_facts, held, spent, moved, dropped, next, numbers_of, move_played}
 use Rattle.position.specs.Games.{played_game, plain_number, plain_next, plain_answer, plain_game}
 use Rattle.position.specs.declared.position.Position.{Position}
 use Rattle.position.specs.declared.mv.Move.{Move}
 use Rattle.position.specs.declared.mv.Move.TheVariants.{Normal, Drop}
-use Rattle.position.specs.declared.mv.LastMove.TheVariants as Last
-use Rattle.position.specs.declared.answers.Answer.{Answer}
+use Rattle.std.specs.Prelude.{Some}
 use Rattle.position.proofs.Agree.{any_each}
 use Rattle.position.proofs.Tidiness.{family-length}
 use Rattle.position.proofs.Kings.{king_is}
@@ -63,7 +62,7 @@ module _ (p : Position) (v : Move) where
   done_plays e = rw e
 
 -- ---- a stored move says what was played
-pub recorded : (v : Move) → last_move (numbers_of v) ≡ Last.Was v
+pub recorded : (v : Move) → last_move (numbers_of v) ≡ Some v
 unfolding last_move numbers_of
 recorded (Normal from to true) = refl
 recorded (Normal from to false) = refl

@@ -9,17 +9,19 @@ use native.Mathlib.Omega.{arith}
 use native.Mathlib.Decide.{ℕ_discrete}
 use lib.ListN.{length, get_or}
 use lib.Dec.{eqb, leb, ltb, ltb→lt}
-use borrow.Author.Tests.{eq-eqb, ne_eqb, eqb-true, le-leb, lt-leb, leb-true, le-ltb, lt-ltb, not-true, not-false}
+use borrow.Author.Tests.{eq-eqb, ne_eqb, eqb-false, eqb-true, le-leb, lt-leb, leb-true, le-ltb, lt-ltb, not-true, not-false}
 use Rattle.squares.specs.declared.bitboard.Bitboard.{Bitboard}
 use Rattle.squares.specs.declared.marks.Marks.{Marks}
-use Rattle.squares.specs.Answers.{marks_answer}
+use Rattle.squares.specs.declared.bad_number.BadNumber.{BadNumber}
+use Rattle.std.specs.Prelude.{Ok, Err}
+use Rattle.squares.specs.Answers.{marks_given, marks_answer}
 use Rattle.squares.specs.Board.{on_board}
 use Rattle.squares.specs.Kinds.{kinds, kind_row, good_kind, good_piece, good_cell, good_colour, colour_of, kind_of}
 use Rattle.squares.specs.Sets.{has, set_of, clean, empty_s, and_s, or_s, size, smallest, without_s, all_good}
 use Rattle.squares.proofs.Laws.{both, decided, all_at, all_from, rows_truth, le-or-lt, board_on, board_range, has-set_of, set_of_cong, clean-set_of, clean-has, and_rules, or_rules, First, smallest_is, smallest_at, smallest-none, size_without, size_none, has-without_s, has_off, size_rule, count_same, cell-piece, piece_kind, black_kind, piece_by}
 use Rattle.position.specs.Machine.{Sized, cell_at, family}
 use Rattle.position.specs.Sound.{any_below, disagrees, faulty_at, reading_at, first_fault, stray_in, king_wrong, standing, over_limit, good_ply, good_last, fault_elsewhere, sound}
-use Rattle.position.specs.Inner.{AllClean, Compared, Tidy, TidyTold, king_off, promoted_at, sets_size, over_by_sets}
+use Rattle.position.specs.Inner.{AllClean, AllGood, Compared, Tidy, TidyTold, king_off, promoted_at, sets_size, over_by_sets}
 use Rattle.position.specs.Answers.{first_fact, told_by, query_facts, told_query, soundness_told}
 use Rattle.position.specs.declared.position.Position.{Position}
 use Rattle.squares.proofs.Laws.{length-tab, is_tab, family_at, family-clean, all_good_lem, good_all, marks_told, marks-refused, marks-players, marks-kinds}
@@ -221,6 +223,13 @@ module _ (p : Position) (t : Tidy p) where
   unfolding good_piece good_kind colour_of kind_of
   white_kings d e = piece_of_lem 24 1 7 d e refl refl (omega arith) refl (omega arith)
 
+  -- the squares of a king, by the sets of its colour and of kings
+  pub black_off : (d e : Bitboard) → king_off (and_s (get_or p.players 0 d) (get_or p.kinds 7 e)) p.bking ≡ king_wrong p.board 8 p.bking
+  black_off d e = ap (λ (s : Bitboard). king_off s p.bking) (black_kings d e) ∙ king_law p.board 8 p.bking
+
+  pub white_off : (d e : Bitboard) → king_off (and_s (get_or p.players 1 d) (get_or p.kinds 7 e)) p.wking ≡ king_wrong p.board 24 p.wking
+  white_off d e = ap (λ (s : Bitboard). king_off s p.wking) (white_kings d e) ∙ king_law p.board 24 p.wking
+
 -- ---- the counts of a tidy position, by its sets
 good-kind : (c : ℕ) → good_cell c ≡ true → kind_of c ≤ 14
 good-kind c g = go (ℕ_discrete c 0)
@@ -263,15 +272,15 @@ module _ (p : Position) (t : Tidy p) where
       ∙ ap (λ (x : ℕ). ltb (kind_row (j + 1)).limit (x + (get_or p.hands j 0 + get_or p.hands (j + 7) 0))) (sets-size j h))
 
 -- ---- the sets made anew have no stray bits
-module _ (cells : List ℕ) (m : Marks) (of : m ≡ marks_answer cells) (e : m.number ≡ 0) where
+module _ (cells : List ℕ) (m : Marks) (of : marks_given (Ok m) ≡ marks_answer cells) where
   good : all_good cells ≡ true
-  good = marks_told cells m of e
+  good = marks_told cells _ of refl
 
   players_are : m.players ≡ family colour_of 2 cells
-  players_are = marks-players cells m of good
+  players_are = marks-players cells _ of good
 
   kinds_are : m.kinds ≡ family kind_of 14 cells
-  kinds_are = marks-kinds cells m of good
+  kinds_are = marks-kinds cells _ of good
 
   pub players-clean : AllClean m.players
   players-clean = rw players_are (family-tidy colour_of 2 cells)
@@ -280,37 +289,44 @@ module _ (cells : List ℕ) (m : Marks) (of : m ≡ marks_answer cells) (e : m.n
   kinds-clean = rw kinds_are (family-tidy kind_of 14 cells)
 
 -- ---- what the comparison with them says
-module _ (p : Position) (m : Marks) (of : m ≡ marks_answer p.board) where
-  pub tidy_bad : (m.number ≡ 0 → ⊥) → TidyTold p false
-  tidy_bad d =
+pub never_bad : (cells : List ℕ) (e : BadNumber) → AllGood cells → marks_given (Err e) ≡ marks_answer cells → ⊥
+never_bad cells e good of = false≢true (sym (marks-refused cells _ of (eqb-false 2 0 refl)) ∙ good_all cells good)
+
+pub tidy_bad : (p : Position) (e : BadNumber) → marks_given (Err e) ≡ marks_answer p.board → TidyTold p false
+tidy_bad p e of =
+    record {
+      yes = λ z. absurd (false≢true z);
+      no = λ _ t. never_bad p.board e t.cells of;
+    }
+
+module _ (p : Position) (m : Marks) (of : marks_given (Ok m) ≡ marks_answer p.board) where
+  pub tidy-players : (a : Bool) → Compared p.players m.players a → a ≡ false → TidyTold p false
+  tidy-players a q f = record { yes = λ z. absurd (false≢true z); no = λ _ t. q.differ f (t.players ∙ sym (players_are p.board m of)) }
+
+  pub tidy-kinds : (a r : Bool) → Compared p.players m.players a → a ≡ true → Compared p.kinds m.kinds r → TidyTold p r
+  tidy-kinds a r q f k =
       record {
-        yes = λ z. absurd (false≢true z);
-        no = λ _ t. false≢true (sym (marks-refused p.board m of d) ∙ good_all p.board t.cells);
+        yes = λ z.
+            record {
+              cells = all_good_lem p.board (good p.board m of);
+              players = q.same f ∙ players_are p.board m of;
+              kinds = k.same z ∙ kinds_are p.board m of;
+            };
+        no = λ z t. k.differ z (t.kinds ∙ sym (kinds_are p.board m of));
       }
 
-  module _ (e : m.number ≡ 0) where
-    pub tidy-players : (a : Bool) → Compared p.players m.players a → a ≡ false → TidyTold p false
-    tidy-players a q f = record { yes = λ z. absurd (false≢true z); no = λ _ t. q.differ f (t.players ∙ sym (players_are p.board m of e)) }
-
-    pub tidy-kinds : (a r : Bool) → Compared p.players m.players a → a ≡ true → Compared p.kinds m.kinds r → TidyTold p r
-    tidy-kinds a r q f k =
-        record {
-          yes = λ z.
-              record {
-                cells = all_good_lem p.board (good p.board m of e);
-                players = q.same f ∙ players_are p.board m of e;
-                kinds = k.same z ∙ kinds_are p.board m of e;
-              };
-          no = λ z t. k.differ z (t.kinds ∙ sym (kinds_are p.board m of e));
-        }
-
--- ---- the faults elsewhere of a tidy position
+-- ---- the faults elsewhere of a tidy position, as they are looked for
 pub elsewhere_tidy : (p : Position) → Tidy p
     → fault_elsewhere p
-    ≡ king_wrong p.board 8 p.bking
-    || (king_wrong p.board 24 p.wking || (any_below (over_limit p) 7 || (not (good_colour p.side) || (not (good_ply p.ply) || not (good_last p.last)))))
+    ≡ ((king_wrong p.board 8 p.bking || king_wrong p.board 24 p.wking) || any_below (over_by_sets p.kinds p.hands) 7)
+    || (not (good_colour p.side) || (not (good_ply p.ply) || not (good_last p.last)))
 unfolding fault_elsewhere
-elsewhere_tidy p t = let s = tidy_strays p t in rw (s.0, s.1)
+elsewhere_tidy p t = let s = tidy_strays p t in rw (s.0, s.1, over_law p t) (grouped (king_wrong p.board 8 p.bking) (king_wrong p.board 24 p.wking) _ _)
+  where
+    grouped : (a b c d : Bool) → a || (b || (c || d)) ≡ ((a || b) || c) || d
+    grouped true b c d = refl
+    grouped false true c d = refl
+    grouped false false c d = refl
 
 -- ---- the soundness test's answer
 pub told_sound : (p : Position) → sound p ≡ true → record { number = 0; square = 0 } ≡ soundness_told p

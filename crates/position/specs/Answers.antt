@@ -1,26 +1,107 @@
 -- The answers: a list of facts in document 01's order, and the first that holds.
-use Rattle.std.specs.Prelude.{ℕ, ◌+◌, ◌-◌, ◌*◌, Bool, false, not, ◌&&◌, cond, List, [], ◌∷◌, get_or, eqb, leb}
+use Rattle.std.specs.Prelude.{ℕ, ◌+◌, ◌-◌, ◌*◌, Bool, false, not, ◌&&◌, cond, List, [], ◌∷◌, get_or, eqb, leb, Option, Some, None, Result, Ok, Err}
 use Rattle.squares.specs.Board.{on_board}
 use Rattle.squares.specs.Kinds.{good_kind, good_colour, good_piece, colour_of, kind_of}
 use Rattle.squares.specs.Sets.{set_of, empty_s}
+use Rattle.squares.specs.declared.bitboard.Bitboard.{Bitboard}
 use Rattle.position.specs.Machine.{cell_at, king_square}
 use Rattle.position.specs.Sound.{first_fault, sound}
 use Rattle.position.specs.declared.position.Position.{Position}
+use Rattle.position.specs.declared.mv.Move.{Move}
 use Rattle.position.specs.declared.mv.Move.TheVariants.{Normal, Drop}
 use Rattle.position.specs.declared.mv.MoveNumbers.{MoveNumbers}
-use Rattle.position.specs.declared.mv.LastMove.{LastMove}
-use Rattle.position.specs.declared.mv.LastMove.TheVariants as Last
+use Rattle.position.specs.declared.answers.Refusal.{Refusal}
+use Rattle.position.specs.declared.answers.Refusal.TheVariants as Refused
 use Rattle.position.specs.declared.answers.Told.{Told}
-use Rattle.position.specs.declared.answers.Stands.{Stands}
-use Rattle.position.specs.declared.answers.Stands.TheVariants as Stand
-use Rattle.position.specs.declared.answers.ToldPiece.{ToldPiece}
 use Rattle.position.specs.declared.answers.ToldSet.{ToldSet}
 use Rattle.position.specs.declared.answers.ToldNumber.{ToldNumber}
 use Rattle.position.specs.declared.answers.ToldPly.{ToldPly}
-use Rattle.position.specs.declared.answers.KingSquare.{KingSquare}
-use Rattle.position.specs.declared.answers.KingSquare.TheVariants as King
-use Rattle.position.specs.declared.answers.ToldKing.{ToldKing}
-use Rattle.position.specs.declared.answers.ToldLast.{ToldLast}
+
+-- ---- what an answer says: document 01's number, and what goes with it
+
+-- what stands on a square, or "nothing"
+pub record ToldPiece : Type 0 where
+  pub told : Told
+  pub stands : Option ℕ
+
+-- a king's square, or "nothing"
+pub record ToldKing : Type 0 where
+  pub told : Told
+  pub king : Option ℕ
+
+-- the last move, or "nothing"
+pub record ToldLast : Type 0 where
+  pub told : Told
+  pub last : Option Move
+
+-- the position after a call that changes it
+pub record Answer : Type 0 where
+  pub position : Position
+  pub told : Told
+
+-- ---- "If an answer is an enum, a definition gives this paper's number and values for each of its cases"
+
+-- 0: done
+abbrev pub done : Told
+done = record { number = 0; square = 0 }
+
+-- the number of a refusal, and "the square that goes with 1"
+abbrev pub told_of : Refusal → Told
+told_of (Refused.NotSound n) = record { number = 1; square = n }
+told_of Refused.BadNumber = record { number = 2; square = 0 }
+told_of Refused.NothingThere = record { number = 3; square = 0 }
+told_of Refused.OtherSide = record { number = 4; square = 0 }
+told_of Refused.NoPromotedForm = record { number = 5; square = 0 }
+told_of Refused.OwnPiece = record { number = 6; square = 0 }
+told_of Refused.TakesKing = record { number = 7; square = 0 }
+told_of Refused.PromotedDrop = record { number = 8; square = 0 }
+told_of Refused.Occupied = record { number = 9; square = 0 }
+told_of Refused.NotInHand = record { number = 10; square = 0 }
+told_of Refused.LastPly = record { number = 11; square = 0 }
+told_of Refused.ShortBuffer = record { number = 12; square = 0 }
+told_of Refused.EditNotSound = record { number = 13; square = 0 }
+
+-- of a call that gives nothing else
+abbrev pub told_given : Result (Unit {0}) Refusal → Told
+told_given (Ok v) = done
+told_given (Err r) = told_of r
+
+-- "A refused call carries the empty set where it would give a set"
+abbrev pub told_set_given : Result Bitboard Refusal → ToldSet
+told_set_given (Ok s) = record { told = done; set = s }
+told_set_given (Err r) = record { told = told_of r; set = empty_s }
+
+-- ".. 0 where a number or square"
+abbrev pub told_number_given : Result ℕ Refusal → ToldNumber
+told_number_given (Ok v) = record { told = done; value = v }
+told_number_given (Err r) = record { told = told_of r; value = 0 }
+
+-- the same of a move number
+abbrev pub told_ply_given : Result ℕ Refusal → ToldPly
+told_ply_given (Ok n) = record { told = done; ply = n }
+told_ply_given (Err r) = record { told = told_of r; ply = 0 }
+
+-- ".. and "nothing" where a piece or move"
+abbrev pub told_piece_given : Result (Option ℕ) Refusal → ToldPiece
+told_piece_given (Ok s) = record { told = done; stands = s }
+told_piece_given (Err r) = record { told = told_of r; stands = None }
+
+-- the same of a king's square
+abbrev pub told_king_given : Result (Option ℕ) Refusal → ToldKing
+told_king_given (Ok q) = record { told = done; king = q }
+told_king_given (Err r) = record { told = told_of r; king = None }
+
+-- the same of the last move
+abbrev pub told_last_given : Result (Option Move) Refusal → ToldLast
+told_last_given (Ok m) = record { told = done; last = m }
+told_last_given (Err r) = record { told = told_of r; last = None }
+
+-- "Every number but 0 hands back the position as given": p, of which the caller has kept a copy
+abbrev pub answer_given : Position → Result Position Refusal → Answer
+answer_given p (Ok q) = record { position = q; told = done }
+answer_given p (Err r) = record { position = p; told = told_of r }
+
+-- ---- the facts
 
 -- an answer number and its fact
 pub record Fact : Type 0 where
@@ -53,14 +134,14 @@ unfoldable pub answered : Bool → Position → Bool
 answered bad p = eqb (first_fact (query_facts bad p)) 0
 
 -- "an empty cell answers that nothing stands there, else the piece"
-unfoldable pub stood : ℕ → Stands
-stood c = cond (eqb c 0) Stand.Nothing (Stand.Piece c)
+unfoldable pub stood : ℕ → Option ℕ
+stood c = cond (eqb c 0) None (Some c)
 
 -- piece_at: "Reading a square"
 unfoldable pub piece_at_answer : Position → ℕ → ToldPiece
 piece_at_answer p n =
     let bad = not (on_board 9 n) in
-    record { told = told_query bad p; stands = cond (answered bad p) (stood (cell_at p.board n)) Stand.Nothing }
+    record { told = told_query bad p; stands = cond (answered bad p) (stood (cell_at p.board n)) None }
 
 -- a set of squares by what stands there; the empty set where the call is refused
 unfoldable pub set_answer : Bool → (ℕ → Bool) → Position → ToldSet
@@ -109,24 +190,24 @@ hand_answer p c k =
     record { told = told_query bad p; value = cond (answered bad p) (get_or p.hands (hand_at c k) 0) 0 }
 
 -- a king's square, or "nothing where there is none"
-unfoldable pub king_at : ℕ → KingSquare
-king_at q = cond (eqb q 0) King.Nothing (King.At q)
+unfoldable pub king_at : ℕ → Option ℕ
+king_at q = cond (eqb q 0) None (Some q)
 
 -- king_position: "king square"; the king of a colour is 8 or 24
 unfoldable pub king_answer : Position → ℕ → ToldKing
 king_answer p c =
     let bad = not (good_colour c) in
-    record { told = told_query bad p; king = cond (answered bad p) (king_at (king_square p.board (16 * c - 8))) King.Nothing }
+    record { told = told_query bad p; king = cond (answered bad p) (king_at (king_square p.board (16 * c - 8))) None }
 
 -- what a stored last move says, or "nothing where there is none"
-unfoldable pub last_move : MoveNumbers → LastMove
+unfoldable pub last_move : MoveNumbers → Option Move
 last_move l =
-    cond (eqb l.tag 1) (Last.Was (Normal l.a l.b (eqb l.promote 1)))
-    (cond (eqb l.tag 2) (Last.Was (Drop l.a l.b)) Last.Nothing)
+    cond (eqb l.tag 1) (Some (Normal l.a l.b (eqb l.promote 1)))
+    (cond (eqb l.tag 2) (Some (Drop l.a l.b)) None)
 
 -- last_move: "last move"
 unfoldable pub last_answer : Position → ToldLast
-last_answer p = record { told = told_query false p; last = cond (answered false p) (last_move p.last) Last.Nothing }
+last_answer p = record { told = told_query false p; last = cond (answered false p) (last_move p.last) None }
 
 -- soundness: "1: position not sound, with the square reported above"
 unfoldable pub soundness_told : Position → Told

@@ -4,9 +4,8 @@ use Rattle.squares.specs.Board.{on_board}
 use Rattle.squares.specs.Kinds.{good_colour, good_cell}
 use Rattle.position.specs.Machine.{Machine, machine, full}
 use Rattle.position.specs.Sound.{good_ply, sound}
-use Rattle.position.specs.Answers.{Fact, gives, first_fact, told_by, hand_at, good_hand_kind}
+use Rattle.position.specs.Answers.{Answer, Fact, gives, first_fact, told_by, hand_at, good_hand_kind}
 use Rattle.position.specs.declared.position.Position.{Position}
-use Rattle.position.specs.declared.answers.Answer.{Answer}
 
 -- "Order: 2, then 1, then .. for an edit 13"; "13: the edit would make the position unsound": m is the machine after it
 unfoldable pub edit_facts : Bool → Position → Machine → List Fact

@@ -1,11 +1,10 @@
 -- A whole game: moves played one after the other, by the call and by the plain machine.
 use Rattle.std.specs.Prelude.{ℕ, cond, List, [], ◌∷◌, eqb}
 use Rattle.position.specs.Machine.{Machine, full}
-use Rattle.position.specs.Answers.{gives, first_fact}
+use Rattle.position.specs.Answers.{Answer, gives, first_fact}
 use Rattle.position.specs.Moves.{bad_move, rule_facts, next, move_played}
 use Rattle.position.specs.declared.position.Position.{Position}
 use Rattle.position.specs.declared.mv.Move.{Move}
-use Rattle.position.specs.declared.answers.Answer.{Answer}
 
 -- each move on the position that the call before it handed back
 unfoldable pub played_game : Position → List Move → List Answer

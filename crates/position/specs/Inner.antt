@@ -1,17 +1,16 @@
 -- What the inner functions promise one another. No public promise cites this file.
-use Rattle.std.specs.Prelude.{ℕ, ◌+◌, ◌-◌, ◌≤◌, ◌<◌, ◌≡◌, Bool, true, false, not, ◌&&◌, cond, List, length, get_or, set, eqb, leb}
+use Rattle.std.specs.Prelude.{ℕ, ◌+◌, ◌-◌, ◌≤◌, ◌<◌, ◌≡◌, Bool, true, false, not, ◌&&◌, cond, List, length, get_or, eqb, leb, Result, Ok, Err}
 use Rattle.squares.specs.declared.bitboard.Bitboard.{Bitboard}
-use Rattle.squares.specs.Board.{on_board}
 use Rattle.squares.specs.Kinds.{kind_row, good_cell, colour_of, kind_of}
 use Rattle.squares.specs.Sets.{clean, empty_s, or_s, size, smallest}
 use Rattle.position.specs.Machine.{machine, full, cell_at, family}
 use Rattle.position.specs.Sound.{sound}
-use Rattle.position.specs.Answers.{hand_at}
+use Rattle.position.specs.Answers.{Fact, first_fact}
 use Rattle.position.specs.Edits.{with_cells}
 use Rattle.position.specs.declared.position.Position.{Position}
-use Rattle.position.specs.declared.answers.Answer.{Answer}
 use Rattle.position.specs.declared.answers.Told.{Told}
-use Rattle.position.specs.declared.answers.ToldSet.{ToldSet}
+use Rattle.position.specs.declared.answers.Refusal.{Refusal}
+use Rattle.position.specs.declared.answers.Refusal.TheVariants.{EditNotSound}
 
 -- a square's number
 pub record OnBoard (n : ℕ) : Type 0 where
@@ -62,37 +61,14 @@ over_by_sets kinds hands j = not (leb (sets_size kinds j + (get_or hands j 0 + g
 unfoldable pub mark_set : List Bitboard → ℕ → Bitboard
 mark_set sets k = get_or sets (k - 1) empty_s
 
--- a set beside the number t that is told: the empty one where it refuses
-unfoldable pub told_set : Told → Bitboard → ToldSet
-told_set t s = record { told = t; set = cond (eqb t.number 0) s empty_s }
+-- what is told of the first of these facts, none of which has the number 1
+abbrev pub told_first : List Fact → Told
+told_first facts = record { number = first_fact facts; square = 0 }
 
 -- r is p with these cells, if they are good
 abbrev pub WithBoard : Position → List ℕ → Position → Type 0
 WithBoard p cells r = AllGood cells → r ≡ full (with_cells (machine p) cells)
 
--- r is p with c on the square n, if the cells are then good
-abbrev pub WithCell : Position → ℕ → ℕ → Position → Type 0
-WithCell p n c r = on_board 9 n ≡ true → WithBoard p (set p.board (n - 1) c) r
-
--- p with n pieces of the kind k in the hand of c
-abbrev pub with_hand : Position → ℕ → ℕ → ℕ → Position
-with_hand p c k n =
-    record {
-      board = p.board;
-      hands = set p.hands (hand_at c k) n;
-      bking = p.bking;
-      wking = p.wking;
-      side = p.side;
-      last = p.last;
-      ply = p.ply;
-      players = p.players;
-      kinds = p.kinds;
-    }
-
--- what is told of an edit that makes q, where t was told before
-unfoldable pub told_after : Told → Position → Told
-told_after t q = cond (eqb t.number 0 && not (sound q)) (record { number = 13; square = 0 }) t
-
--- the answer of an edit that makes q of p, where t is told
-unfoldable pub settled : Told → Position → Position → Answer
-settled t p q = record { told = t; position = cond (eqb t.number 0) q p }
+-- q as the answer of an edit: 13 where it is not sound
+abbrev pub if_sound : Position → Result Position Refusal
+if_sound q = cond (sound q) (Ok q) (Err EditNotSound)

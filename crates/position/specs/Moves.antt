@@ -4,12 +4,11 @@ use Rattle.squares.specs.Board.{on_board}
 use Rattle.squares.specs.Kinds.{good_piece, hand_kind, other_colour, colour_of, kind_of, promoted_piece}
 use Rattle.position.specs.Machine.{Machine, machine, full, cell_at}
 use Rattle.position.specs.Sound.{sound, top_ply}
-use Rattle.position.specs.Answers.{Fact, gives, first_fact, told_by, hand_at}
+use Rattle.position.specs.Answers.{Answer, Fact, gives, first_fact, told_by, hand_at}
 use Rattle.position.specs.declared.position.Position.{Position}
 use Rattle.position.specs.declared.mv.Move.{Move}
 use Rattle.position.specs.declared.mv.Move.TheVariants.{Normal, Drop}
 use Rattle.position.specs.declared.mv.MoveNumbers.{MoveNumbers}
-use Rattle.position.specs.declared.answers.Answer.{Answer}
 
 -- "2: a number out of range"; "where a call asks for a piece, 0 gives number 2"
 unfoldable pub bad_move : Move → Bool

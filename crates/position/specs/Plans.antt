@@ -1,14 +1,14 @@
 -- A move planned in numbers, and what the functions of a move promise one another. No public promise cites this file.
-use Rattle.std.specs.Prelude.{ℕ, ◌+◌, ◌-◌, ◌≤◌, ◌<◌, ◌≡◌, Bool, true, false, ◌||◌, cond, List, get_or, set, replicate, eqb}
+use Rattle.std.specs.Prelude.{ℕ, ◌+◌, ◌-◌, ◌≤◌, ◌<◌, ◌≡◌, Bool, true, false, ◌||◌, cond, List, get_or, set, eqb, Result, Ok, Err}
 use Rattle.squares.specs.declared.bitboard.Bitboard.{Bitboard}
 use Rattle.squares.specs.Kinds.{hand_kind, other_colour, colour_of, kind_of}
 use Rattle.squares.specs.Sets.{empty_s, single_s, xor_s}
-use Rattle.position.specs.Machine.{no_move}
 use Rattle.position.specs.Sound.{top_ply, sound}
-use Rattle.position.specs.Answers.{hand_at}
+use Rattle.position.specs.Answers.{answer_given, hand_at}
 use Rattle.position.specs.Moves.{bad_move, arriving, numbers_of, move_played}
 use Rattle.position.specs.Inner.{OnBoard}
 use Rattle.position.specs.declared.position.Position.{Position}
+use Rattle.position.specs.declared.answers.Refusal.{Refusal}
 use Rattle.position.specs.declared.plan.Plan.{Plan}
 use Rattle.position.specs.declared.mv.Move.{Move}
 use Rattle.position.specs.declared.mv.Move.TheVariants.{Normal, Drop}
@@ -32,15 +32,10 @@ pub record Holds (hands : List ℕ) (side piece : ℕ) : Type 0 where
   pub kind_high : kind_of piece ≤ 7
   pub some : 1 ≤ get_or hands (hand_at side (kind_of piece)) 0
 
--- nothing is done, for the number n
-unfoldable pub refused_by : ℕ → Plan
-refused_by n = record { number = n; from = 1; to = 1; left = 0; taken = 0; piece = 0; hands = replicate 14 0; last = no_move }
-
 -- the piece c leaves from; on to stood t
 unfoldable pub normal_plan : ℕ → ℕ → Bool → ℕ → ℕ → List ℕ → Plan
 normal_plan from to promote c t hands =
     record {
-      number = 0;
       from = from;
       to = to;
       left = c;
@@ -53,7 +48,7 @@ normal_plan from to promote c t hands =
 -- the piece comes to a square that is empty
 unfoldable pub drop_plan : ℕ → ℕ → List ℕ → Plan
 drop_plan piece to hands =
-    record { number = 0; from = to; to = to; left = 0; taken = 0; piece = piece; hands = hands; last = numbers_of (Drop piece to) }
+    record { from = to; to = to; left = 0; taken = 0; piece = piece; hands = hands; last = numbers_of (Drop piece to) }
 
 -- the square of one leaves the set of the mark k, or joins it; the mark of an empty cell, 0, has no set
 unfoldable pub toggled : List Bitboard → ℕ → Bitboard → List Bitboard
@@ -66,8 +61,7 @@ king_after king was left taken arrived to = cond (eqb arrived king) to (cond (eq
 -- the position with all that the plan changes but the sets
 unfoldable pub stored_by : Position → Plan → Position
 stored_by p plan =
-    cond (eqb plan.number 0)
-    (record {
+    record {
       board = set (set p.board (plan.from - 1) 0) (plan.to - 1) plan.piece;
       hands = plan.hands;
       bking = king_after 8 p.bking plan.left plan.taken plan.piece plan.to;
@@ -77,8 +71,7 @@ stored_by p plan =
       ply = p.ply + 1;
       players = p.players;
       kinds = p.kinds;
-    })
-    p
+    }
 
 -- the position with other sets
 abbrev pub with_sets : Position → List Bitboard → List Bitboard → Position
@@ -108,10 +101,15 @@ played_by p plan =
 pub record Playable (p : Position) (plan : Plan) : Type 0 where
   pub at_from : OnBoard plan.from
   pub at_to : OnBoard plan.to
-  pub side : plan.number ≡ 0 → p.side ≤ 2
-  pub ply : plan.number ≡ 0 → p.ply < top_ply
+  pub side : p.side ≤ 2
+  pub ply : p.ply < top_ply
 
--- a plan that does what make_move is to do; square is the one that it answers
-pub record MovePlan (p : Position) (m : Move) (square : ℕ) (plan : Plan) : Type 0 where
+-- a plan that does what make_move is to do
+pub record MovePlan (p : Position) (m : Move) (plan : Plan) : Type 0 where
   pub fits : Playable p plan
-  pub does : record { told = record { number = plan.number; square = square }; position = played_by p plan } ≡ move_played p m
+  pub does : answer_given p (Ok (played_by p plan)) ≡ move_played p m
+
+-- such a plan, or the refusal that make_move is to answer
+abbrev pub Planned : Position → Move → Result Plan Refusal → Type 0
+Planned p m (Ok plan) = MovePlan p m plan
+Planned p m (Err r) = answer_given p (Err r) ≡ move_played p m

@@ -7,57 +7,52 @@ use crate::plan::Plan;
 use crate::position::Position;
 use squares::Piece;
 
-// The square of `king`, which was `was`, after `left` and `taken` have gone from the board and `arrived` was put on `to`.
-fn king_after(king: u8, was: u8, left: u8, taken: u8, arrived: u8, to: u8) -> u8
-    ensures { result ≡ king_after king was left taken arrived to }
+// The square of `king`, which was `was`, after a plan: 0 where there is none, as the definition has it.
+#[tactic(auto, unfolding(crate::specs::Plans::king_after))]
+fn king_after(king: u8, was: u8, plan: &Plan) -> u8
+    ensures { result ≡ king_after king was plan.now.left plan.now.taken plan.now.piece plan.now.to }
 {
-    if arrived == king {
-        return to;
+    if plan.piece == king {
+        return plan.to;
     }
-    if left == king {
+    if plan.left == king || plan.taken == king {
         return 0;
     }
-    if taken == king { 0 } else { was }
+    was
 }
 
-// All that a plan changes but the sets.
-pub(crate) fn store(p: Position, plan: Plan) -> Position
-    requires { Playable p plan }
-    ensures { result ≡ stored_by p plan }
-{
-    let mut q = p;
-    if plan.number == 0 {
-        let i = (plan.from - 1) as usize;
-        let j = (plan.to - 1) as usize;
-        q.board[i] = 0;
-        q.board[j] = plan.piece;
-        q.bking = king_after(8, q.bking, plan.left, plan.taken, plan.piece, plan.to);
-        q.wking = king_after(24, q.wking, plan.left, plan.taken, plan.piece, plan.to);
+impl Position {
+    // All that a plan changes but the sets. (An array is stored by way of a variable: the proof's borrow checker asks for that.)
+    // The piece is stored last, since a drop leaves and reaches the same square.
+    #[tactic(auto, unfolding(crate::specs::Plans::stored_by, crate::specs::Sound::top_ply, squares::specs::Kinds::other_colour))]
+    pub(crate) fn store(&mut self, plan: Plan)
+        requires { Playable self.old plan }
+        ensures { self.new ≡ stored_by self.old plan }
+    {
+        self.board[usize::from(plan.from - 1)] = 0;
+        self.board[usize::from(plan.to - 1)] = plan.piece;
+        self.bking = king_after(8, self.bking, &plan);
+        self.wking = king_after(24, self.wking, &plan);
         let hands = plan.hands;
-        q.hands = hands;
-        q.side = 3 - q.side;
+        self.hands = hands;
+        self.side = 3 - self.side;
         let last = plan.last;
-        q.last = last;
-        q.ply = q.ply + 1;
+        self.last = last;
+        self.ply += 1;
     }
-    q
-}
 
-// The square leaves the sets of the cell, or joins them.
-pub(crate) fn toggle(p: Position, cell: u8, square: u8) -> Position
-    ensures { result ≡ toggled_at p cell square }
-{
-    let one = single(square);
-    let mut q = p;
-    if cell != 0 {
-        let at = (color_of(cell) - 1) as usize;
-        let set = q.players[at];
-        q.players[at] = set.xor(one);
+    // The square leaves the sets of the cell, or joins them.
+    pub(crate) fn toggle(&mut self, cell: u8, square: u8)
+        ensures { self.new ≡ toggled_at self.old cell square }
+    {
+        let one = single(square);
+        if cell != 0 {
+            let at = usize::from(color_of(cell) - 1);
+            self.players[at] = self.players[at].xor(one);
+        }
+        if Piece::is_good(cell) {
+            let at = usize::from(kind_of(cell) - 1);
+            self.kinds[at] = self.kinds[at].xor(one);
+        }
     }
-    if Piece::is_good(cell) {
-        let at = (kind_of(cell) - 1) as usize;
-        let set = q.kinds[at];
-        q.kinds[at] = set.xor(one);
-    }
-    q
 }

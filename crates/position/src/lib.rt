@@ -16,8 +16,6 @@ mod queries;
 mod sound;
 mod tidy;
 
-pub use answers::{
-    Answer, KingSquare, Stands, Told, ToldKing, ToldLast, ToldNumber, ToldPiece, ToldPly, ToldSet,
-};
-pub use mv::{LastMove, Move, MoveNumbers};
+pub use answers::{Refusal, Told, ToldNumber, ToldPly, ToldSet};
+pub use mv::{Move, MoveNumbers};
 pub use position::Position;

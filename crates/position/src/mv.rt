@@ -1,7 +1,8 @@
 // Moves, as calls speak of them and as a position stores them.
-ghost use Rattle.std.specs.Prelude.{◌≡◌, ◌&&◌};
+ghost use Rattle.std.specs.Prelude.{◌≡◌};
 ghost use Rattle.position.specs.Machine.{no_move};
 ghost use Rattle.position.specs.Sound.{good_last};
+ghost use Rattle.position.specs.Answers.{last_move};
 ghost use Rattle.position.specs.Moves.{bad_move, numbers_of};
 
 use squares::{Piece, Square};
@@ -10,12 +11,6 @@ use squares::{Piece, Square};
 pub enum Move {
     Normal { from: u8, to: u8, promote: bool },
     Drop { piece: u8, to: u8 },
-}
-
-#[derive(Clone, Copy)]
-pub enum LastMove {
-    Nothing,
-    Was(Move),
 }
 
 // A stored last move: 0 0 0 0 for none, 1 from to promote, 2 piece to 0. Numbers only, so that whatever a caller lends is
@@ -41,19 +36,50 @@ impl MoveNumbers {
         }
     }
 
-    pub(crate) fn of(m: Move) -> Self
-        ensures { result ≡ numbers_of m }
+    // The move that was stored, if there is one.
+    #[tactic(auto, unfolding(crate::specs::Answers::last_move))]
+    pub(crate) fn played(self) -> Option<Move>
+        ensures { result ≡ last_move self }
     {
+        let to = self.b;
+        match self.tag {
+            1 => Some(Move::Normal {
+                from: self.a,
+                to,
+                promote: self.promote == 1,
+            }),
+            2 => Some(Move::Drop { piece: self.a, to }),
+            _ => None,
+        }
+    }
+
+    // Whether it is none, or has good numbers.
+    #[tactic(auto, unfolding(crate::specs::Sound::good_last))]
+    pub(crate) fn is_good(self) -> bool
+        ensures { result ≡ good_last self }
+    {
+        match self.tag {
+            0 => self.a == 0 && self.b == 0 && self.promote == 0,
+            1 => Square::is_good(self.a) && Square::is_good(self.b) && self.promote <= 1,
+            2 => Piece::is_good(self.a) && Square::is_good(self.b) && self.promote == 0,
+            // No such tag. (One `matches!` with a guard would be no plainer: each tag has its own test.)
+            _ => false,
+        }
+    }
+}
+
+impl From<Move> for MoveNumbers {
+    ghost from_gives = { λ m numbers. numbers ≡ numbers_of m };
+
+    #[tactic(auto, unfolding(crate::specs::Moves::numbers_of))]
+    fn from(m: Move) -> Self {
         match m {
-            Move::Normal { from, to, promote } => {
-                let promote = if promote { 1 } else { 0 };
-                Self {
-                    tag: 1,
-                    a: from,
-                    b: to,
-                    promote,
-                }
-            }
+            Move::Normal { from, to, promote } => Self {
+                tag: 1,
+                a: from,
+                b: to,
+                promote: u8::from(promote),
+            },
             Move::Drop { piece, to } => Self {
                 tag: 2,
                 a: piece,
@@ -62,60 +88,15 @@ impl MoveNumbers {
             },
         }
     }
-
-    // Whether it is none, or has good numbers.
-    pub(crate) fn is_good(self) -> bool
-        ensures { result ≡ good_last self }
-    {
-        let tag = self.tag;
-        let a = self.a;
-        let b = self.b;
-        let promote = self.promote;
-        if tag == 0 {
-            return all_three(a == 0, b == 0, promote == 0);
-        }
-        if tag == 1 {
-            return all_three(Square::is_good(a), Square::is_good(b), promote <= 1);
-        }
-        if tag == 2 {
-            return all_three(Piece::is_good(a), Square::is_good(b), promote == 0);
-        }
-        false
-    }
-}
-
-fn all_three(first: bool, second: bool, third: bool) -> bool
-    ensures { result ≡ first && (second && third) }
-{
-    if first {
-        if second { third } else { false }
-    } else {
-        false
-    }
 }
 
 // Whether a number of the move is out of range.
+#[tactic(auto, unfolding(crate::specs::Moves::bad_move))]
 pub(crate) fn bad_move(m: Move) -> bool
     ensures { result ≡ bad_move m }
 {
     match m {
-        Move::Normal {
-            from,
-            to,
-            promote: _,
-        } => {
-            if Square::is_good(from) {
-                !Square::is_good(to)
-            } else {
-                true
-            }
-        }
-        Move::Drop { piece, to } => {
-            if Piece::is_good(piece) {
-                !Square::is_good(to)
-            } else {
-                true
-            }
-        }
+        Move::Normal { from, to, .. } => !(Square::is_good(from) && Square::is_good(to)),
+        Move::Drop { piece, to } => !(Piece::is_good(piece) && Square::is_good(to)),
     }
 }

@@ -1,12 +1,13 @@
 // A position: 81 cells, two hands, side, ply and last move; beside them the king squares and the sixteen sets, which follow
-// from the cells. Integers only, laid out as in C: the firmware lends this very struct.
+// from the cells. Integers only, laid out as in C: the firmware lends this very struct. A king square is 0 where there is
+// no king.
 ghost use Rattle.std.specs.Prelude.{◌≡◌};
 ghost use Rattle.squares.specs.Sets.{smallest};
 ghost use Rattle.position.specs.Machine.{empty_position, start_position};
 ghost use Rattle.position.specs.Inner.{WithBoard};
 
 use crate::mv::MoveNumbers;
-use squares::{Bitboard, Color, Marks, PieceKind, PopAnswer, Square};
+use squares::{Bitboard, Color, Marks, PieceKind, Square};
 
 #[repr(C)]
 #[derive(Clone, Copy)]
@@ -64,13 +65,13 @@ impl Position {
     }
 }
 
-// The smallest square of a set, or 0.
+// The smallest square of a set, or 0, as `smallest` has it. (Each arm is a case of pop's promise: a closure would hide that.)
 fn first_square(set: Bitboard) -> u8
     ensures { result ≡ smallest set }
 {
     match set.pop() {
-        PopAnswer::Square(n, _) => n,
-        PopAnswer::Nothing => 0,
+        Some((n, _)) => n,
+        None => 0,
     }
 }
 
@@ -78,7 +79,9 @@ fn first_square(set: Bitboard) -> u8
 pub(crate) fn with_board(p: Position, board: [u8; Square::NUM]) -> Position
     ensures { WithBoard p board result }
 {
-    let marks = Marks::of(&board);
+    let Ok(marks) = Marks::of(&board) else {
+        return p;
+    };
     let players = marks.players;
     let kinds = marks.kinds;
     let black = players[0];
@@ -86,17 +89,12 @@ pub(crate) fn with_board(p: Position, board: [u8; Square::NUM]) -> Position
     let kings = kinds[7];
     let bking = first_square(black.and(kings));
     let wking = first_square(white.and(kings));
-    let hands = p.hands;
-    let last = p.last;
     Position {
         board,
-        hands,
         bking,
         wking,
-        side: p.side,
-        last,
-        ply: p.ply,
         players,
         kinds,
+        ..p
     }
 }

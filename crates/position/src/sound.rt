@@ -1,47 +1,42 @@
 // The soundness test. A sound position is known by its sets, which are built anew from its cells and compared, and by what is
 // read off them; only where the sets differ are the cells searched for the first that disagrees.
 ghost use Rattle.std.specs.Prelude.{◌≡◌};
-ghost use Rattle.position.specs.Answers.{soundness_told, told_query};
+ghost use Rattle.position.specs.Answers.{told_given, soundness_told, told_query};
 
-use crate::answers::Told;
+use crate::answers::Refusal;
 use crate::counts::fault_elsewhere;
 use crate::fault::first_fault;
 use crate::position::Position;
 use crate::tidy::is_tidy;
 
 impl Position {
-    // Number 1 with the first faulty square, or 0 where the position is sound.
-    pub fn soundness(self) -> Told
-        ensures { result ≡ soundness_told self }
+    pub fn soundness(self) -> Result<(), Refusal>
+        ensures { told_given result ≡ soundness_told self }
     {
-        if !is_tidy(self) {
-            return Told {
-                number: 1,
-                square: first_fault(self),
-            };
-        }
-        if fault_elsewhere(self) {
-            return Told {
-                number: 1,
-                square: 0,
-            };
-        }
-        Told {
-            number: 0,
-            square: 0,
-        }
+        soundness(&self)
     }
 }
 
-// What a query answers before its value: 2 where its numbers are bad, then 1.
-pub(crate) fn checked(bad: bool, p: Position) -> Told
-    ensures { result ≡ told_query bad p }
+// The same of a position that is read where it lies: nothing is copied.
+pub(crate) fn soundness(p: &Position) -> Result<(), Refusal>
+    ensures { told_given result ≡ soundness_told p.now }
+{
+    if !is_tidy(p) {
+        return Err(Refusal::NotSound(first_fault(p)));
+    }
+    if fault_elsewhere(p) {
+        return Err(Refusal::NotSound(0));
+    }
+    Ok(())
+}
+
+// What refuses a query before its value: 2 where its numbers are bad, then 1.
+#[tactic(auto, using(crate::proofs::Tidiness::told_bad, crate::proofs::Tidiness::told_query_lem))]
+pub(crate) fn checked(bad: bool, p: &Position) -> Result<(), Refusal>
+    ensures { told_given result ≡ told_query bad p.now }
 {
     if bad {
-        return Told {
-            number: 2,
-            square: 0,
-        };
+        return Err(Refusal::BadNumber);
     }
-    p.soundness()
+    soundness(p)
 }

@@ -1,13 +1,6 @@
-use mathlib.Core.Path.{sym, ap, ◌∙◌}
-use Rattle.squares.specs.Answers.{form_given}
-use Rattle.squares.proofs.Laws.{promoted-piece-value}
+use mathlib.Core.Path.{◌∙◌}
+use Rattle.squares.proofs.Laws.{form-or, promoted-piece-value}
 use Rattle.position.proofs.cells.promoted.Goals as goal
 
-pub returns-in-Form : goal.returns-in-Form
-returns-in-Form c = promoted-piece-value _ _ (ap form_given (sym c.in-Form.is) ∙ c.promote.ensures)
-
-pub returns-in-Nothing : goal.returns-in-Nothing
-returns-in-Nothing c = promoted-piece-value _ _ (ap form_given (sym c.in-Nothing.is) ∙ c.promote.ensures)
-
-pub returns-in-BadNumber : goal.returns-in-BadNumber
-returns-in-BadNumber c = promoted-piece-value _ _ (ap form_given (sym c.in-BadNumber.is) ∙ c.promote.ensures)
+pub returns : goal.returns
+returns c = c.unwrap_or-2.ensures ∙ rw c.unwrap_or.ensures (form-or c.promote.result) ∙ promoted-piece-value _ _ c.promote.ensures

@@ -26,21 +26,15 @@ loop-j-init c = (omega arith, any_none _)
 pub promoted_index-requires : goal.promoted_index-requires
 promoted_index-requires c = omega arith
 
-pub overflow_add-held : goal.overflow_add-held
-overflow_add-held c = omega (arith, c.wide.ensures.1, c.wide-in-loop-j.ensures.1)
-
-pub overflow_add-standing : goal.overflow_add-standing
-overflow_add-standing c = omega (arith, c.wide-standing.ensures.1, c.wide.ensures.1, c.wide-in-loop-j.ensures.1)
-
 pub returns-then-full_set-standing : goal.returns-then-full_set-standing
 returns-then-full_set-standing c =
-    let here = standing c.args.kinds c.loop-j.j c.promoted_index.result _ _ _ _ _ (omega (arith, c.well_formed)) (omega arith) c.promoted_index.ensures c.or.ensures c.count.ensures c.wide-standing.ensures.0 in
-    sym (any_at _ c.loop-j.j 7 (omega arith) (over_yes c.args.kinds c.args.hands c.loop-j.j _ _ _ _ here c.wide.ensures.0 c.wide-in-loop-j.ensures.0 c.full_set.ensures c.if-full_set-standing.true))
+    let here = standing c.args.kinds.now c.loop-j.j c.promoted_index.result _ _ _ _ _ (omega arith) (omega arith) c.promoted_index.ensures c.or.ensures c.count.ensures c.from-standing.ensures in
+    sym (any_at _ c.loop-j.j 7 (omega arith) (over_yes c.args.kinds.now c.args.hands.now c.loop-j.j _ _ _ _ here c.from.ensures c.from-in-loop-j.ensures c.full_set.ensures c.if-full_set-standing.true))
 
 pub loop-j-preserved : goal.loop-j-preserved
 loop-j-preserved c =
-    let here = standing c.args.kinds c.loop-j.j c.promoted_index.result _ _ _ _ _ (omega (arith, c.well_formed)) (omega arith) c.promoted_index.ensures c.or.ensures c.count.ensures c.wide-standing.ensures.0 in
-    (omega arith, any_more _ _ c.loop-j.invariant.1 (over_no c.args.kinds c.args.hands c.loop-j.j _ _ _ _ here c.wide.ensures.0 c.wide-in-loop-j.ensures.0 c.full_set.ensures c.if-full_set-standing.false))
+    let here = standing c.args.kinds.now c.loop-j.j c.promoted_index.result _ _ _ _ _ (omega arith) (omega arith) c.promoted_index.ensures c.or.ensures c.count.ensures c.from-standing.ensures in
+    (omega arith, any_more _ _ c.loop-j.invariant.1 (over_no c.args.kinds.now c.args.hands.now c.loop-j.j _ _ _ _ here c.from.ensures c.from-in-loop-j.ensures c.full_set.ensures c.if-full_set-standing.false))
 
 pub returns : goal.returns
 returns c = let e : c.loop-j.j ≡ 7 = omega arith in sym (rw e at c.loop-j.invariant.1)

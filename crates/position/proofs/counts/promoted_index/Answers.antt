@@ -1,19 +1,18 @@
+use Rattle.std.specs.Prelude.{ℕ, Option, unwrap_or}
 use mathlib.Core.Path.{refl, sym, ap, ◌∙◌}
 use native.Mathlib.Omega.{arith}
-use Rattle.squares.specs.Answers.{form_given}
-use Rattle.squares.proofs.Laws.{promoted-value, promoted-some}
+use Rattle.squares.proofs.Laws.{form-or, form-found, promoted-value, promoted-some}
 use Rattle.position.proofs.Elsewhere.{place-form, place_nothing}
 use Rattle.position.proofs.counts.promoted_index.Goals as goal
 
-pub overflow_sub-result : goal.overflow_sub-result
-overflow_sub-result c = let e = ap form_given (sym c.in-Form.is) ∙ c.promote.ensures in
+pub overflow_sub-promoted : goal.overflow_sub-promoted
+overflow_sub-promoted c =
+    let e = sym (form-found _ (sym c.unwrap_or.ensures ∙ c.in-Some.is)) ∙ c.promote.ensures in
     omega (arith, promoted-value _ _ e, promoted-some _ _ e refl)
 
-pub returns-in-Form : goal.returns-in-Form
-returns-in-Form c = place-form c.args.j c.requires _ (ap form_given (sym c.in-Form.is) ∙ c.promote.ensures)
+pub returns-in-Some : goal.returns-in-Some
+returns-in-Some c = rw c.from.ensures (place-form c.args.j c.requires _ (sym (form-found _ (sym c.unwrap_or.ensures ∙ c.in-Some.is)) ∙ c.promote.ensures))
 
-pub returns-in-Nothing : goal.returns-in-Nothing
-returns-in-Nothing c = place_nothing c.args.j c.requires _ (ap form_given (sym c.in-Nothing.is) ∙ c.promote.ensures)
-
-pub returns-in-BadNumber : goal.returns-in-BadNumber
-returns-in-BadNumber c = place_nothing c.args.j c.requires _ (ap form_given (sym c.in-BadNumber.is) ∙ c.promote.ensures)
+pub returns-in-None : goal.returns-in-None
+returns-in-None c =
+    place_nothing c.args.j c.requires _ c.promote.ensures (sym (form-or c.promote.result) ∙ ap (λ (o : Option ℕ). unwrap_or o 0) (sym c.unwrap_or.ensures ∙ c.in-None.is))

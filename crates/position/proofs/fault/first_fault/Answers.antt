@@ -7,24 +7,24 @@ use Rattle.position.proofs.fault.first_fault.Goals as goal
 
 pub search-init : goal.search-init
 unfolding first_fault
-search-init c = (omega arith, omega arith, refl, left_all (faulty_at c.args.p))
+search-init c = (omega arith, omega arith, refl, left_all (faulty_at c.args.p.now))
 
-pub loop-back-init : goal.loop-back-init
-loop-back-init c = let i = c.search.invariant in (i.0, omega arith, omega arith, i.2, i.3)
+pub loop-file-init : goal.loop-file-init
+loop-file-init c = let i = c.search.invariant in (i.0, omega arith, i.2, i.3)
 
 pub faulty-requires : goal.faulty-requires
 faulty-requires c = record { low = omega arith; high = omega arith }
 
-pub loop-back-preserved : goal.loop-back-preserved
-loop-back-preserved c =
-    let i = c.loop-back.invariant in
-    (i.0, i.1, omega arith, i.3, sym (left_next _ _ _ i.0 i.1 (omega arith) (sym c.faulty.ensures ∙ c.if-faulty.false)) ∙ i.4)
+pub loop-file-preserved : goal.loop-file-preserved
+loop-file-preserved c =
+    let i = c.loop-file.invariant in
+    (i.0, i.1, i.2, sym (left_next _ _ _ i.0 i.1 c.loop-file-test.true c.loop-file.auto.file (sym c.faulty.ensures ∙ c.if-faulty.false)) ∙ i.3)
 
 pub search-preserved : goal.search-preserved
 search-preserved c =
-    let i = c.loop-back.invariant in
-    let e : c.loop-back.back ≡ 9 = omega arith in
-    (omega arith, omega arith, i.3, sym (left_line _ _ i.0) ∙ (rw e at i.4))
+    let i = c.loop-file.invariant in
+    let e : c.loop-file.file ≡ 0 = omega arith in
+    (omega arith, omega arith, i.2, sym (left_line _ _ i.0) ∙ (rw e at i.3))
 
 pub returns-after-search : goal.returns-after-search
 returns-after-search c =
@@ -34,5 +34,5 @@ returns-after-search c =
 
 pub returns-then-faulty : goal.returns-then-faulty
 returns-then-faulty c =
-    let i = c.loop-back.invariant in
-    sym (left_here _ _ _ i.0 i.1 (omega arith) (sym c.faulty.ensures ∙ c.if-faulty.true)) ∙ i.4
+    let i = c.loop-file.invariant in
+    sym (left_here _ _ _ i.0 i.1 c.loop-file-test.true c.loop-file.auto.file (sym c.faulty.ensures ∙ c.if-faulty.true)) ∙ i.3

@@ -1,20 +1,18 @@
+use native.Mathlib.Omega.{arith}
 use Rattle.position.proofs.Tidiness.{tidy_bad, tidy-players, tidy-kinds, players-clean, kinds-clean}
 use Rattle.position.proofs.tidy.is_tidy.Goals as goal
 
-pub returns-then-marks-ne0 : goal.returns-then-marks-ne0
-returns-then-marks-ne0 c = tidy_bad _ _ c.of-marks.ensures c.if-marks-ne0.true
+pub same_sets-requires : goal.same_sets-requires
+same_sets-requires c = (omega arith, players-clean _ _ c.in-Ok.ensures)
 
-pub same_players-requires : goal.same_players-requires
-same_players-requires c = players-clean _ _ c.of-marks.ensures c.if-marks-ne0.false
+pub same_sets-requires-then-same_sets : goal.same_sets-requires-then-same_sets
+same_sets-requires-then-same_sets c = (omega arith, kinds-clean _ _ c.in-Ok.ensures)
 
-pub returns-then-not-same_players : goal.returns-then-not-same_players
-returns-then-not-same_players c =
-    tidy-players _ _ c.of-marks.ensures c.if-marks-ne0.false _ c.same_players.ensures (c.if-not-same_players.true)
+pub returns-then-same_sets : goal.returns-then-same_sets
+returns-then-same_sets c = tidy-kinds _ _ c.in-Ok.ensures _ _ c.same_sets.ensures c.if-same_sets.true c.same_sets-then-same_sets.ensures
 
-pub same_kinds-requires : goal.same_kinds-requires
-same_kinds-requires c = kinds-clean _ _ c.of-marks.ensures c.if-marks-ne0.false
+pub returns-else-same_sets : goal.returns-else-same_sets
+returns-else-same_sets c = rw c.if-same_sets.false (tidy-players _ _ c.in-Ok.ensures _ c.same_sets.ensures c.if-same_sets.false)
 
-pub returns : goal.returns
-returns c =
-    tidy-kinds _ _ c.of-marks.ensures c.if-marks-ne0.false _ _ c.same_players.ensures (c.if-not-same_players.false)
-    c.same_kinds.ensures
+pub returns-in-Err : goal.returns-in-Err
+returns-in-Err c = tidy_bad _ _ c.in-Err.ensures

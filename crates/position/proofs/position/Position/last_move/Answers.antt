@@ -1,10 +1,13 @@
-use mathlib.Core.Path.{refl, ◌∙◌}
-use Rattle.position.proofs.Tidiness.{told_query_lem}
-use Rattle.position.proofs.Asking.{last-refused, last_done}
+use mathlib.Core.Path.{refl, ap}
+use Rattle.std.specs.Prelude.{None}
+use Rattle.position.specs.Answers.{done, told_last_given, soundness_told, last_answer}
+use Rattle.position.proofs.Asking.{last, query_refused, query_done}
 use Rattle.position.proofs.position.Position.last_move.Goals as goal
 
-pub returns-then-told-ne0 : goal.returns-then-told-ne0
-returns-then-told-ne0 c = last-refused _ _ (c.soundness-told.ensures ∙ told_query_lem _ _ refl) c.if-told-ne0.true
+pub returns-in_err-soundness : goal.returns-in_err-soundness
+unfolding soundness_told last_answer
+returns-in_err-soundness c = query_refused told_last_given last None _ _ _ (λ r. refl) _ _ c.from_residual.ensures.1 c.in_err-soundness.ensures
 
 pub returns : goal.returns
-returns c = last_done _ _ (c.soundness-told.ensures ∙ told_query_lem _ _ refl) _ c.if-told-ne0.false c.last_of-last.ensures
+unfolding soundness_told last_answer
+returns c = query_done told_last_given last None _ _ _ _ c.in_ok-soundness.ensures (ap (last done) c.played.ensures)

@@ -1,20 +1,20 @@
+use mathlib.Core.Path.{refl, ap}
 use borrow.Author.Tests.{not-false}
+use Rattle.std.specs.Prelude.{None}
 use Rattle.squares.proofs.Laws.{board_range}
-use Rattle.position.proofs.Asking.{done_good, piece-refused, piece_done, heard_as}
+use Rattle.position.specs.Answers.{done, told_piece_given, piece_at_answer}
+use Rattle.position.proofs.Asking.{piece, passes_good, query_refused, query_done}
 use Rattle.position.proofs.position.Position.piece_at.Goals as goal
 
-pub returns-then-told-ne0 : goal.returns-then-told-ne0
-returns-then-told-ne0 c =
-    let query = heard_as c.args.self _ _ _ c.checked-told.ensures c.is_good.ensures in
-    piece-refused _ _ _ query c.if-told-ne0.true
+pub returns-in_err-checked : goal.returns-in_err-checked
+unfolding piece_at_answer
+returns-in_err-checked c = query_refused told_piece_given piece None _ _ _ (λ r. refl) _ _ c.from_residual.ensures.1 (rw c.is_good.ensures at c.in_err-checked.ensures)
 
-pub stands_on-stands-requires : goal.stands_on-stands-requires
-stands_on-stands-requires c =
-    let query = heard_as c.args.self _ _ _ c.checked-told.ensures c.is_good.ensures in
-    let r = board_range 9 _ (not-false _ (done_good _ _ _ query c.if-told-ne0.false)) in
+pub stands_on-requires : goal.stands_on-requires
+stands_on-requires c =
+    let r = board_range 9 _ (not-false _ (passes_good _ _ (rw c.is_good.ensures at c.in_ok-checked.ensures))) in
     record { low = r.0; high = r.1 }
 
 pub returns : goal.returns
-returns c =
-    let query = heard_as c.args.self _ _ _ c.checked-told.ensures c.is_good.ensures in
-    piece_done _ _ _ query _ c.if-told-ne0.false c.stands_on-stands.ensures
+unfolding piece_at_answer
+returns c = query_done told_piece_given piece None _ _ _ _ (rw c.is_good.ensures at c.in_ok-checked.ensures) (ap (piece done) c.stands_on.ensures)

@@ -1,10 +1,12 @@
-use mathlib.Core.Path.{refl, ◌∙◌}
-use Rattle.position.proofs.Tidiness.{told_query_lem}
-use Rattle.position.proofs.Asking.{ply-refused, ply_done}
+use mathlib.Core.Path.{refl}
+use Rattle.position.specs.Answers.{told_ply_given, soundness_told, ply_answer}
+use Rattle.position.proofs.Asking.{ply, query_refused, query_done}
 use Rattle.position.proofs.position.Position.ply.Goals as goal
 
-pub returns-then-told-eq0 : goal.returns-then-told-eq0
-returns-then-told-eq0 c = ply_done _ _ (c.soundness-told.ensures ∙ told_query_lem _ _ refl) c.if-told-eq0.true
+pub returns-in_err-soundness : goal.returns-in_err-soundness
+unfolding soundness_told ply_answer
+returns-in_err-soundness c = query_refused told_ply_given ply 0 _ _ _ (λ r. refl) _ _ c.from_residual.ensures.1 c.in_err-soundness.ensures
 
-pub returns-else-told-eq0 : goal.returns-else-told-eq0
-returns-else-told-eq0 c = ply-refused _ _ (c.soundness-told.ensures ∙ told_query_lem _ _ refl) c.if-told-eq0.false
+pub returns : goal.returns
+unfolding soundness_told ply_answer
+returns c = query_done told_ply_given ply 0 _ _ _ _ c.in_ok-soundness.ensures refl

@@ -1,16 +1,21 @@
-use mathlib.Core.Path.{◌∙◌}
 use borrow.Author.Tests.{not-false}
+use Rattle.std.proofs.lemmas.Result.{err_from_is_err_and}
 use Rattle.position.specs.Machine.{machine}
 use Rattle.position.specs.Edits.{ply_edited, with_ply}
 use Rattle.position.proofs.Sizes.{sized}
-use Rattle.position.proofs.Asking.{heard_as, done_good, done_sound}
-use Rattle.position.proofs.Editing.{edit_sure, same-cells, ply-sound}
+use Rattle.position.proofs.Asking.{passes_good, passes_sound}
+use Rattle.position.proofs.Editing.{edit_refused, edit_sure, same-cells, ply-sound}
 use Rattle.position.proofs.position.Position.ply_set.Goals as goal
+
+pub returns-in_err-checked : goal.returns-in_err-checked
+unfolding ply_edited
+returns-in_err-checked c =
+    let i = err_from_is_err_and c.from_residual.result c.from_residual.ensures.1 in
+    rw (i.1, i.2) (edit_refused _ _ _ _ (rw c.is_ply.ensures at c.in_err-checked.ensures))
 
 pub returns : goal.returns
 unfolding ply_edited with_ply machine
 returns c =
-    let e = heard_as _ _ _ _ c.checked-told.ensures c.is_ply.ensures in
+    let e = rw c.is_ply.ensures at c.in_ok-checked.ensures in
     let size = sized _ _ c.well_formed.0 in
-    c.settle.ensures
-    ∙ edit_sure _ _ _ _ e _ (λ z. same-cells _ size (done_sound _ _ _ e z) _ _ _ _) (λ z. ply-sound _ size (done_sound _ _ _ e z) _ (not-false _ (done_good _ _ _ e z)))
+    edit_sure _ _ _ e _ (same-cells _ size (passes_sound _ _ e) _ _ _ _) (ply-sound _ size (passes_sound _ _ e) _ (not-false _ (passes_good _ _ e)))

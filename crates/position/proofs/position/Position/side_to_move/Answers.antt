@@ -1,10 +1,12 @@
-use mathlib.Core.Path.{refl, ◌∙◌}
-use Rattle.position.proofs.Tidiness.{told_query_lem}
-use Rattle.position.proofs.Asking.{side-refused, side_done}
+use mathlib.Core.Path.{refl}
+use Rattle.position.specs.Answers.{told_number_given, soundness_told, side_answer}
+use Rattle.position.proofs.Asking.{number, query_refused, query_done}
 use Rattle.position.proofs.position.Position.side_to_move.Goals as goal
 
-pub returns-then-told-eq0 : goal.returns-then-told-eq0
-returns-then-told-eq0 c = side_done _ _ (c.soundness-told.ensures ∙ told_query_lem _ _ refl) c.if-told-eq0.true
+pub returns-in_err-soundness : goal.returns-in_err-soundness
+unfolding soundness_told side_answer
+returns-in_err-soundness c = query_refused told_number_given number 0 _ _ _ (λ r. refl) _ _ c.from_residual.ensures.1 c.in_err-soundness.ensures
 
-pub returns-else-told-eq0 : goal.returns-else-told-eq0
-returns-else-told-eq0 c = side-refused _ _ (c.soundness-told.ensures ∙ told_query_lem _ _ refl) c.if-told-eq0.false
+pub returns : goal.returns
+unfolding soundness_told side_answer
+returns c = query_done told_number_given number 0 _ _ _ _ c.in_ok-soundness.ensures refl

@@ -1,14 +1,15 @@
 use mathlib.Core.Path.{refl, ap, ◌∙◌}
 use Rattle.squares.specs.Sets.{not_s}
-use Rattle.position.specs.Answers.{vacant_answer}
+use Rattle.squares.specs.Sets.{empty_s}
+use Rattle.position.specs.Answers.{done, told_set_given, set_answer, vacant_answer, soundness_told}
 use Rattle.position.proofs.Sizes.{sized}
-use Rattle.position.proofs.Tidiness.{told_query_lem}
-use Rattle.position.proofs.Asking.{set_told, occupied_set, vacant_set}
+use Rattle.position.proofs.Asking.{squares, occupied_set, vacant_set, passes_sound, query_refused, query_done}
 use Rattle.position.proofs.position.Position.vacant_bitboard.Goals as goal
 
+pub returns-in_err-soundness : goal.returns-in_err-soundness
+unfolding set_answer vacant_answer soundness_told
+returns-in_err-soundness c = query_refused told_set_given squares empty_s _ _ _ (λ r. refl) _ _ c.from_residual.ensures.1 c.in_err-soundness.ensures
+
 pub returns : goal.returns
-unfolding vacant_answer
-returns c =
-    c.told_set.ensures
-    ∙ set_told _ _ _ (c.soundness.ensures ∙ told_query_lem _ _ refl) _ _ (λ g h.
-    c.not.ensures ∙ ap not_s (c.both_players.ensures ∙ occupied_set c.args.self (sized _ _ c.well_formed.0) h) ∙ vacant_set c.args.self)
+unfolding set_answer vacant_answer soundness_told
+returns c = query_done told_set_given squares empty_s _ _ _ _ c.in_ok-soundness.ensures (ap (squares done) (c.not.ensures ∙ ap not_s (c.both_players.ensures ∙ occupied_set c.args.self (sized _ _ c.well_formed.0) (passes_sound _ _ c.in_ok-soundness.ensures)) ∙ vacant_set c.args.self))

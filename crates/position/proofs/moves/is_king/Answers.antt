@@ -1,4 +1,0 @@
-use Rattle.position.proofs.moves.is_king.Goals as goal
-
-pub returns : goal.returns
-returns c = rw (← c.kind_of.ensures)
