@@ -11,7 +11,7 @@ use Rattle.position.specs.Answers.{first_fact, told_by, query_facts, told_query,
 use Rattle.position.specs.declared.position.Position.{Position}
 use Rattle.position.specs.declared.answers.Told.{Told}
 use Rattle.position.specs.declared.mv.MoveNumbers.{MoveNumbers}
-use Rattle.position.specs.declared.mv.LastMove.TheVariants as Last
+use Rattle.std.specs.Prelude.{None}
 use Rattle.firmware.specs.Shown.{last_shown}
 
 done_sound : (b : Bool) → ◌≡◌ {A = ℕ} (cond (not b) 1 0) 0 → b ≡ true
@@ -35,7 +35,7 @@ module _ (p : Position) (t : Told) (e : t ≡ soundness_told p) where
   unfolding last_shown
   last_done h = rw (done_sound (sound p) (sym sound_told ∙ h), ← e)
 
-read_back : (b : Bool) (l : MoveNumbers) → last_move (cond b l no_move) ≡ cond (eqb (cond (not b) 1 0) 0) (last_move l) Last.Nothing
+read_back : (b : Bool) (l : MoveNumbers) → last_move (cond b l no_move) ≡ cond (eqb (cond (not b) 1 0) 0) (last_move l) None
 unfolding last_move
 read_back true l = refl
 read_back false l = refl

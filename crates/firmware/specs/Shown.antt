@@ -1,17 +1,11 @@
 -- The answers as C sees them, each from the answer of the call below: the same number, and the same values.
-use Rattle.std.specs.Prelude.{ℕ, cond}
+use Rattle.std.specs.Prelude.{ℕ, cond, Option, Some, None}
 use Rattle.squares.specs.Answers.{NumberValue, FormValue, SetValue, TruthValue, PopValue}
 use Rattle.position.specs.Machine.{no_move}
 use Rattle.position.specs.Sound.{sound}
-use Rattle.position.specs.Answers.{soundness_told}
+use Rattle.position.specs.Answers.{ToldPiece, ToldKing, soundness_told}
 use Rattle.position.specs.declared.position.Position.{Position}
 use Rattle.position.specs.declared.answers.ToldNumber.{ToldNumber}
-use Rattle.position.specs.declared.answers.Stands.{Stands}
-use Rattle.position.specs.declared.answers.Stands.TheVariants as Stand
-use Rattle.position.specs.declared.answers.ToldPiece.{ToldPiece}
-use Rattle.position.specs.declared.answers.KingSquare.{KingSquare}
-use Rattle.position.specs.declared.answers.KingSquare.TheVariants as King
-use Rattle.position.specs.declared.answers.ToldKing.{ToldKing}
 use Rattle.firmware.specs.declared.answers.CNumber.{CNumber}
 use Rattle.firmware.specs.declared.answers.CSet.{CSet}
 use Rattle.firmware.specs.declared.answers.CTruth.{CTruth}
@@ -48,18 +42,18 @@ pop_shown v = record { square = v.square; set = v.set }
 -- ---- of calls on positions
 
 -- a piece is a cell "other than 0", so that 0 says "nothing"
-abbrev pub piece_number : Stands → ℕ
-piece_number Stand.Nothing = 0
-piece_number (Stand.Piece c) = c
+abbrev pub piece_number : Option ℕ → ℕ
+piece_number None = 0
+piece_number (Some c) = c
 
 -- the answer of piece_at
 abbrev pub piece_shown : ToldPiece → ToldNumber
 piece_shown a = record { told = a.told; value = piece_number a.stands }
 
 -- a square is 1 to 81, so that 0 says "nothing"
-abbrev pub king_number : KingSquare → ℕ
-king_number King.Nothing = 0
-king_number (King.At n) = n
+abbrev pub king_number : Option ℕ → ℕ
+king_number None = 0
+king_number (Some n) = n
 
 -- the answer of king_position
 abbrev pub king_shown : ToldKing → ToldNumber

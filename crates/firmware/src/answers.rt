@@ -1,10 +1,12 @@
-// The answers of the crates below as C sees them: an enum becomes numbers. specs/Shown.antt says which.
+// The answers of the crates below as C sees them, structs of numbers: specs/Shown.antt says which. Each has its own fields in
+// include/pulfredan.h, so no one generic struct can stand for them. The `From` of each differ as their fields do, and an impl by a macro is
+// refused by the gate.
 ghost use Rattle.std.specs.Prelude.{◌≡◌};
-ghost use Rattle.squares.specs.Answers.{number_given, form_given, set_given};
-ghost use Rattle.firmware.specs.Shown.{number_shown, form_shown, set_shown};
+ghost use Rattle.squares.specs.Answers.{number_given, form_given, set_given, truth_given, pop_given};
+ghost use Rattle.firmware.specs.Shown.{number_shown, form_shown, set_shown, truth_shown, pattern_shown, pop_shown};
 
 use position::{MoveNumbers, Told};
-use squares::{Bitboard, FormAnswer, NumberAnswer, SetAnswer};
+use squares::{BadNumber, Bitboard};
 
 #[repr(C)]
 #[derive(Clone, Copy)]
@@ -50,43 +52,81 @@ pub struct CLast {
     pub last: MoveNumbers,
 }
 
-pub(crate) fn number(a: NumberAnswer) -> CNumber
-    ensures { result ≡ number_shown (number_given a) }
-{
-    match a {
-        NumberAnswer::Number(value) => CNumber { number: 0, value },
-        NumberAnswer::BadNumber => CNumber {
-            number: 2,
-            value: 0,
-        },
+impl From<Result<u8, BadNumber>> for CNumber {
+    ghost from_gives = { λ answer shown. shown ≡ number_shown (number_given answer) };
+
+    fn from(answer: Result<u8, BadNumber>) -> Self {
+        match answer {
+            Ok(value) => Self { number: 0, value },
+            Err(BadNumber) => Self {
+                number: 2,
+                value: 0,
+            },
+        }
     }
 }
 
 // 0 where there is no such form.
-pub(crate) fn form(a: FormAnswer) -> CNumber
-    ensures { result ≡ form_shown (form_given a) }
-{
-    match a {
-        FormAnswer::Form(value) => CNumber { number: 0, value },
-        FormAnswer::Nothing => CNumber {
-            number: 0,
-            value: 0,
-        },
-        FormAnswer::BadNumber => CNumber {
-            number: 2,
-            value: 0,
-        },
+impl From<Result<Option<u8>, BadNumber>> for CNumber {
+    ghost from_gives = { λ answer shown. shown ≡ form_shown (form_given answer) };
+
+    fn from(answer: Result<Option<u8>, BadNumber>) -> Self {
+        Self::from(answer.map(|form| form.unwrap_or(0)))
     }
 }
 
-pub(crate) fn set(a: SetAnswer) -> CSet
-    ensures { result ≡ set_shown (set_given a) }
-{
-    match a {
-        SetAnswer::Set(set) => CSet { number: 0, set },
-        SetAnswer::BadNumber => {
-            let set = Bitboard::empty();
-            CSet { number: 2, set }
+impl From<Result<Bitboard, BadNumber>> for CSet {
+    ghost from_gives = { λ answer shown. shown ≡ set_shown (set_given answer) };
+
+    fn from(answer: Result<Bitboard, BadNumber>) -> Self {
+        match answer {
+            Ok(set) => Self { number: 0, set },
+            Err(BadNumber) => Self {
+                number: 2,
+                set: Bitboard::empty(),
+            },
+        }
+    }
+}
+
+impl From<Result<bool, BadNumber>> for CTruth {
+    ghost from_gives = { λ answer shown. shown ≡ truth_shown (truth_given answer) };
+
+    fn from(answer: Result<bool, BadNumber>) -> Self {
+        match answer {
+            Ok(truth) => Self { number: 0, truth },
+            Err(BadNumber) => Self {
+                number: 2,
+                truth: false,
+            },
+        }
+    }
+}
+
+impl From<Result<u16, BadNumber>> for CPattern {
+    ghost from_gives = { λ answer shown. shown ≡ pattern_shown (number_given answer) };
+
+    fn from(answer: Result<u16, BadNumber>) -> Self {
+        match answer {
+            Ok(pattern) => Self { number: 0, pattern },
+            Err(BadNumber) => Self {
+                number: 2,
+                pattern: 0,
+            },
+        }
+    }
+}
+
+impl From<Option<(u8, Bitboard)>> for CPop {
+    ghost from_gives = { λ answer shown. shown ≡ pop_shown (pop_given answer) };
+
+    fn from(answer: Option<(u8, Bitboard)>) -> Self {
+        match answer {
+            Some((square, set)) => Self { square, set },
+            None => Self {
+                square: 0,
+                set: Bitboard::empty(),
+            },
         }
     }
 }

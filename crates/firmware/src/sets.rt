@@ -6,8 +6,8 @@ ghost use Rattle.squares.specs.Answers.{from_file_answer, get_file_answer, pop_a
 ghost use Rattle.squares.specs.declared.bitboard.Direction.TheVariants.{Down, Up, Left, Right};
 ghost use Rattle.firmware.specs.Shown.{number_shown, set_shown, truth_shown, pattern_shown, pop_shown};
 
-use crate::answers::{CNumber, CPattern, CPop, CSet, CTruth, number, set};
-use squares::{Bitboard, PatternAnswer, PopAnswer, Square, TruthAnswer};
+use crate::answers::{CNumber, CPattern, CPop, CSet, CTruth};
+use squares::{Bitboard, Square};
 
 // ---- squares by number
 
@@ -15,28 +15,28 @@ use squares::{Bitboard, PatternAnswer, PopAnswer, Square, TruthAnswer};
 pub extern "C" fn pulfredan_square_new(file: u8, rank: u8) -> CNumber
     ensures { result ≡ number_shown (square_answer file rank) }
 {
-    number(Square::new(file, rank))
+    CNumber::from(Square::new(file, rank))
 }
 
 #[unsafe(no_mangle)]
 pub extern "C" fn pulfredan_square_file(square: u8) -> CNumber
     ensures { result ≡ number_shown (file_answer square) }
 {
-    number(Square::file(square))
+    CNumber::from(Square::file(square))
 }
 
 #[unsafe(no_mangle)]
 pub extern "C" fn pulfredan_square_rank(square: u8) -> CNumber
     ensures { result ≡ number_shown (rank_answer square) }
 {
-    number(Square::rank(square))
+    CNumber::from(Square::rank(square))
 }
 
 #[unsafe(no_mangle)]
 pub extern "C" fn pulfredan_square_flip(square: u8) -> CNumber
     ensures { result ≡ number_shown (flip_answer square) }
 {
-    number(Square::flip(square))
+    CNumber::from(Square::flip(square))
 }
 
 // ---- sets
@@ -52,7 +52,7 @@ pub extern "C" fn pulfredan_set_empty() -> Bitboard
 pub extern "C" fn pulfredan_set_single(square: u8) -> CSet
     ensures { result ≡ set_shown (single_answer square) }
 {
-    set(Bitboard::single(square))
+    CSet::from(Bitboard::single(square))
 }
 
 #[unsafe(no_mangle)]
@@ -73,13 +73,7 @@ pub extern "C" fn pulfredan_set_is_empty(s: Bitboard) -> bool
 pub extern "C" fn pulfredan_set_contains(s: Bitboard, square: u8) -> CTruth
     ensures { result ≡ truth_shown (contains_answer s square) }
 {
-    match s.contains(square) {
-        TruthAnswer::Truth(truth) => CTruth { number: 0, truth },
-        TruthAnswer::BadNumber => CTruth {
-            number: 2,
-            truth: false,
-        },
-    }
+    CTruth::from(s.contains(square))
 }
 
 #[unsafe(no_mangle)]
@@ -122,20 +116,14 @@ pub extern "C" fn pulfredan_set_not(s: Bitboard) -> Bitboard
 pub extern "C" fn pulfredan_set_from_file(file: u8, pattern: u16) -> CSet
     ensures { result ≡ set_shown (from_file_answer file pattern) }
 {
-    set(Bitboard::from_file(file, pattern))
+    CSet::from(Bitboard::from_file(file, pattern))
 }
 
 #[unsafe(no_mangle)]
 pub extern "C" fn pulfredan_set_get_file(s: Bitboard, file: u8) -> CPattern
     ensures { result ≡ pattern_shown (get_file_answer s file) }
 {
-    match s.get_file(file) {
-        PatternAnswer::Pattern(pattern) => CPattern { number: 0, pattern },
-        PatternAnswer::BadNumber => CPattern {
-            number: 2,
-            pattern: 0,
-        },
-    }
+    CPattern::from(s.get_file(file))
 }
 
 #[unsafe(no_mangle)]
@@ -149,39 +137,33 @@ pub extern "C" fn pulfredan_set_flip(s: Bitboard) -> Bitboard
 pub extern "C" fn pulfredan_set_pop(s: Bitboard) -> CPop
     ensures { result ≡ pop_shown (pop_answer s) }
 {
-    match s.pop() {
-        PopAnswer::Square(square, set) => CPop { square, set },
-        PopAnswer::Nothing => {
-            let set = Bitboard::empty();
-            CPop { square: 0, set }
-        }
-    }
+    CPop::from(s.pop())
 }
 
 #[unsafe(no_mangle)]
 pub extern "C" fn pulfredan_set_shift_down(s: Bitboard, delta: u8) -> CSet
     ensures { result ≡ set_shown (shift_answer Down delta s) }
 {
-    set(s.shift_down(delta))
+    CSet::from(s.shift_down(delta))
 }
 
 #[unsafe(no_mangle)]
 pub extern "C" fn pulfredan_set_shift_up(s: Bitboard, delta: u8) -> CSet
     ensures { result ≡ set_shown (shift_answer Up delta s) }
 {
-    set(s.shift_up(delta))
+    CSet::from(s.shift_up(delta))
 }
 
 #[unsafe(no_mangle)]
 pub extern "C" fn pulfredan_set_shift_left(s: Bitboard, delta: u8) -> CSet
     ensures { result ≡ set_shown (shift_answer Left delta s) }
 {
-    set(s.shift_left(delta))
+    CSet::from(s.shift_left(delta))
 }
 
 #[unsafe(no_mangle)]
 pub extern "C" fn pulfredan_set_shift_right(s: Bitboard, delta: u8) -> CSet
     ensures { result ≡ set_shown (shift_answer Right delta s) }
 {
-    set(s.shift_right(delta))
+    CSet::from(s.shift_right(delta))
 }

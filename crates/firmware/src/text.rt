@@ -9,5 +9,5 @@ use sfen::{TextAnswer, write_sfen};
 pub extern "C" fn pulfredan_write_sfen(p: &Position, out: &mut [u8]) -> TextAnswer
     ensures { (result ≡ text_answer p.now out.old) × (out.new ≡ bytes_after p.now out.old) }
 {
-    write_sfen(*p, out)
+    TextAnswer::from(write_sfen(*p, out))
 }

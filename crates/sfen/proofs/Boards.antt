@@ -7,7 +7,8 @@ use mathlib.Core.Path.{◌≡◌, refl, sym, ap, ◌∙◌}
 use mathlib.Core.Bool.{Bool, true, false, ◌&&◌, ◌||◌, not, cond, false≢true}
 use mathlib.Core.Logic.{⊎_elim}
 use mathlib.Core.List.{List, [], ◌∷◌, ◌++◌, append_assoc}
-use lib.ListN.{length, get_or, replicate}
+use lib.ListN.{length, get_or, replicate, take, drop}
+use Rattle.std.proofs.lemmas.List.{take_at, drop_at}
 use lib.Dec.{T, lit<, eqb, leb, ltb}
 use borrow.Author.Tests.{ne_eqb, le-leb, lt-leb, ltb-true, eqb-true}
 use Rattle.squares.specs.Board.{on_board, square_at, file_of, rank_of}
@@ -186,17 +187,13 @@ good-ranks w cells s g = good_from w cells 1 w s g (omega arith) (omega arith)
 
 -- ---- ranks that are equal one after the other have equal cells
 halves : (a b x y : List ℕ) → length a ≡ length b → a ++ x ≡ b ++ y → (a ≡ b) × (x ≡ y)
-halves [] [] x y l e = (refl, e)
-halves [] (c ∷ b) x y l e = absurd (omega arith)
-halves (c ∷ a) [] x y l e = absurd (omega arith)
-halves (c ∷ a) (d ∷ b) x y l e =
-    let h : c ≡ d = cc in
-    let t : a ++ x ≡ b ++ y = cc in
-    let r = halves a b x y (omega arith) t in
-    ((cc r.0), r.1)
+halves a b x y l e = (
+  sym (take_at a x (length a) refl) ∙ ap (take (length a)) e ∙ take_at b y (length a) (sym l),
+  sym (drop_at a x (length a) refl) ∙ ap (drop (length a)) e ∙ drop_at b y (length a) (sym l),
+)
 
 le_below : (k n : ℕ) → k ≤ suc n → (k ≡ suc n → ⊥) → k ≤ n
-le_below k n h q = ⊎_elim (λ (u : k ≤ n). u) (λ (u : n < k). absurd (q (omega arith))) (le-or-lt k n)
+le_below k n h q = omega (arith, q)
 
 down-same : (f g : ℕ → ℕ) (n : ℕ) → down f n ≡ down g n → (k : ℕ) → 1 ≤ k → k ≤ n → f k ≡ g k
 unfolding down

@@ -6,27 +6,20 @@ use native.Mathlib.Numerals.{add-one}
 use native.Mathlib.Nat.{div-div-eq-div-mul}
 use mathlib.Core.Path.{◌≡◌, refl, sym, ap, ◌∙◌}
 use mathlib.Core.Bool.{Bool, true, false, not, cond, true≢false, false≢true}
-use mathlib.Core.List.{List, [], ◌∷◌, ◌++◌, append_assoc}
-use lib.ListN.{length, get_or}
+use mathlib.Core.List.{List, [], ◌∷◌, ◌++◌, append_assoc, append-nil}
+use lib.ListN.{length, get_or, length-append}
 use lib.Dec.{eqb, ltb}
-use borrow.Author.Tests.{lt-ltb, le-ltb, ne_eqb}
+use borrow.Author.Tests.{lt-ltb, le-ltb}
 use Rattle.squares.specs.Board.{square_at}
 use Rattle.squares.specs.Kinds.{kind_row}
 use Rattle.squares.proofs.Laws.{side_on, at_on, black_kind, white_kind, black_colour, white_colour}
+use Rattle.position.specs.declared.position.Position.{Position}
 use Rattle.position.specs.Machine.{tab, cell_at}
 use Rattle.position.specs.Answers.{hand_at}
-use Rattle.sfen.specs.Text.{shogi, letter_of, kind_text, piece_text, run, rank_text, down, rank_cells, ranks, later_text, ranks_text, board_text, side_byte, decimal, number_text, count_text, hand_text, or_dash, hands_text, text}
+use Rattle.sfen.specs.Text.{shogi, letter_of, kind_text, piece_text, run, rank_text, down, rank_cells, ranks, later_text, ranks_text, board_text, side_byte, decimal, number_text, count_text, hand_text, or_dash, hands_text, text, position_text}
 use Rattle.sfen.specs.Inner.{place}
 
 -- ---- letters
-pub letter_black : (k : ℕ) → letter_of 1 k ≡ (kind_row k).letter
-unfolding letter_of
-letter_black k = refl
-
-pub letter_white : (colour k : ℕ) → (colour ≡ 1 → ⊥) → letter_of colour k ≡ (kind_row k).letter + 32
-unfolding letter_of
-letter_white colour k h = rw (ne_eqb colour 1 h)
-
 pub kind_raised : (colour k : ℕ) → not (eqb (kind_row k).unpromoted k) ≡ true → kind_text colour k ≡ 43 ∷ letter_of colour k ∷ []
 unfolding kind_text
 kind_raised colour k = go (eqb (kind_row k).unpromoted k) (letter_of colour k)
@@ -85,32 +78,34 @@ cell_at_lem cells file rank lf hf lr hr =
     ap (λ (i : ℕ). get_or cells i 0) e
 
 -- what is left of a rank, the files from `file` on, behind e empty cells
-abbrev pub rank_left : List ℕ → ℕ → ℕ → ℕ → List ℕ
+unfoldable pub rank_left : List ℕ → ℕ → ℕ → ℕ → List ℕ
 rank_left cells rank e file = rank_text e (down (λ f. cell_at cells (square_at 9 f rank)) file)
 
 pub left_all : (cells : List ℕ) (rank : ℕ) → rank_text 0 (rank_cells 9 cells rank) ≡ rank_left cells rank 0 9
-unfolding rank_cells
+unfolding rank_cells rank_left
 left_all cells rank = refl
 
 pub left_none : (cells : List ℕ) (rank e file : ℕ) → file ≡ 0 → rank_left cells rank e file ≡ run e
-unfolding down rank_text
+unfolding down rank_text rank_left
 left_none cells rank e zero h = refl
 left_none cells rank e (suc file) h = absurd (omega arith)
 
 module _ (cells : List ℕ) (rank e file : ℕ) (lf : 1 ≤ file) (hf : file ≤ 9) (lr : 1 ≤ rank) (hr : rank ≤ 9) where
   pub left_empty : get_or cells (9 * (file - 1) + rank - 1) 0 ≡ 0 → rank_left cells rank e file ≡ rank_left cells rank (e + 1) (file - 1)
+  unfolding rank_left
   left_empty z =
       rw (down_less (λ f. cell_at cells (square_at 9 f rank)) file lf, add-one)
       (rank-empty e (cell_at cells (square_at 9 file rank)) _ (cell_at_lem cells file rank lf hf lr hr ∙ z))
 
   pub left_piece : (get_or cells (9 * (file - 1) + rank - 1) 0 ≡ 0 → ⊥)
       → rank_left cells rank e file ≡ run e ++ (piece_text (get_or cells (9 * (file - 1) + rank - 1) 0) ++ rank_left cells rank 0 (file - 1))
+  unfolding rank_left
   left_piece z =
       rw (down_less (λ f. cell_at cells (square_at 9 f rank)) file lf, ← cell_at_lem cells file rank lf hf lr hr)
       (rank-piece e (cell_at cells (square_at 9 file rank)) _ (λ q. z (sym (cell_at_lem cells file rank lf hf lr hr) ∙ q)))
 
 -- ---- the board: the ranks from `rank` on, each behind a `/`
-abbrev pub ranks_left : List ℕ → ℕ → List ℕ
+unfoldable pub ranks_left : List ℕ → ℕ → List ℕ
 ranks_left cells rank = later_text (tab (rank_cells 9 cells) rank (10 - rank))
 
 tab_less : (f : ℕ → List ℕ) (i k : ℕ) → 0 < k → tab f i k ≡ f i ∷ tab f (i + 1) (k - 1)
@@ -119,16 +114,16 @@ tab_less f i zero h = absurd (omega arith)
 tab_less f i (suc k) h = let e : suc k - 1 ≡ k = omega arith in rw (e, add-one)
 
 pub board_first : (cells : List ℕ) → board_text shogi cells ≡ rank_text 0 (rank_cells 9 cells 1) ++ ranks_left cells 2
-unfolding board_text shogi ranks ranks_text tab
+unfolding board_text shogi ranks ranks_text tab ranks_left
 board_first cells = refl
 
 pub ranks-none : (cells : List ℕ) (rank : ℕ) → 9 < rank → ranks_left cells rank ≡ []
-unfolding later_text tab
+unfolding later_text tab ranks_left
 ranks-none cells rank h = let e : 10 - rank ≡ 0 = omega arith in rw e
 
 pub ranks_less : (cells : List ℕ) (rank : ℕ) → rank ≤ 9
     → ranks_left cells rank ≡ (47 ∷ []) ++ (rank_text 0 (rank_cells 9 cells rank) ++ ranks_left cells (rank + 1))
-unfolding later_text
+unfolding later_text ranks_left
 ranks_less cells rank h =
     let e : 10 - (rank + 1) ≡ 10 - rank - 1 = omega arith in
     rw (tab_less (rank_cells 9 cells) rank (10 - rank) (omega arith), e)
@@ -218,21 +213,21 @@ count_many l (suc zero) h k = absurd (k refl)
 count_many l (suc (suc n)) h k = refl
 
 -- what is left of a hand, the kinds from `kind` on
-abbrev pub hand_left : List ℕ → ℕ → ℕ → List ℕ
+unfoldable pub hand_left : List ℕ → ℕ → ℕ → List ℕ
 hand_left hands colour kind = hand_text (down (λ k. k) kind) hands colour
 
 pub hand_all : (hands : List ℕ) (colour : ℕ) → hand_text shogi.held hands colour ≡ hand_left hands colour 7
-unfolding shogi down
+unfolding shogi down hand_left
 hand_all hands colour = refl
 
 pub hand-none : (hands : List ℕ) (colour kind : ℕ) → kind ≡ 0 → hand_left hands colour kind ≡ []
-unfolding down hand_text
+unfolding down hand_text hand_left
 hand-none hands colour zero h = refl
 hand-none hands colour (suc kind) h = absurd (omega arith)
 
 pub hand_less : (hands : List ℕ) (colour kind : ℕ) → 0 < kind
-    → hand_left hands colour kind ≡ count_text (letter_of colour kind) (get_or hands (hand_at colour kind) 0) ++ hand_left hands colour (kind - 1)
-unfolding hand_text
+    → hand_left hands colour kind ≡ count_text (letter_of colour kind) (get_or hands ((colour - 1) * 7 + (kind - 1)) 0) ++ hand_left hands colour (kind - 1)
+unfolding hand_text hand_left hand_at
 hand_less hands colour kind h = rw (down_less (λ k. k) kind h)
 
 pub dash_none : (bs : List ℕ) → length bs ≡ 0 → or_dash bs ≡ bs ++ 45 ∷ []
@@ -255,8 +250,20 @@ unfolding hands_text
 hands_both hands = refl
 
 -- ---- the text, part by part
-pub text_parts : (cells : List ℕ) (side : ℕ) (hands : List ℕ) (ply : ℕ)
-    → text shogi cells side hands ply
-    ≡ board_text shogi cells ++ ((32 ∷ []) ++ ((side_byte side ∷ []) ++ ((32 ∷ []) ++ (hands_text shogi hands ++ ((32 ∷ []) ++ number_text ply)))))
-unfolding text
-text_parts cells side hands ply = refl
+pub text_parts : (p : Position) → position_text p
+    ≡ board_text shogi p.board ++ ((32 ∷ []) ++ ((side_byte p.side ∷ []) ++ ((32 ∷ []) ++ (hands_text shogi p.hands ++ ((32 ∷ []) ++ number_text p.ply)))))
+unfolding text position_text
+text_parts p = refl
+
+-- ---- what each file of src/ goes by
+pub ruleset joins = (append_assoc, append-nil, length-append)
+
+pub ruleset line_cases = (joins, place_none, place-some, number_places)
+
+pub ruleset letters_cases = (joins, kind_raised, kind_plain, piece_black, piece_white)
+
+pub ruleset board_cases = (joins, run_none, run-some, left_all, left_none, left_empty, left_piece, board_first, ranks-none, ranks_less)
+
+pub ruleset hands_cases = (joins, count_none, count_one, count_many, hand_all, hand-none, hand_less, hands_both, dash_none, dash_some, dash_length)
+
+pub ruleset text_cases = (joins, text_parts)

@@ -1,5 +1,4 @@
 -- Crates above cite Laws alone.
-mod Lines
 mod Cases
 mod Cut
 mod Boards

@@ -15,10 +15,9 @@ use Rattle.squares.specs.declared.bitboard.Direction.TheVariants.{Down, Up, Left
 use Rattle.squares.proofs.Laws.{squares, marked-sets}
 use Rattle.position.specs.declared.mv.Move.{Move}
 use Rattle.position.specs.declared.mv.Move.TheVariants.{Normal, Drop}
-use Rattle.position.specs.declared.answers.Answer.{Answer}
 use Rattle.position.specs.Machine.{Machine, machine, full, family, tab, no_move, start_ranks, start_cells, start_position}
 use Rattle.position.specs.Sound.{any_below, king_wrong, standing, top_ply, good_ply, good_last, sound}
-use Rattle.position.specs.Answers.{first_fact, hand_at}
+use Rattle.position.specs.Answers.{Answer, first_fact, hand_at}
 use Rattle.position.specs.Moves.{bad_move, normal_facts, drop_facts, rule_facts, arriving, held, moved, next, move_played}
 use Rattle.position.specs.Games.{plain_number, plain_next, plain_answer}
 use Rattle.position.proofs.Laws.{Sized, plays_plain, machine-sound, start-sound}

@@ -3,40 +3,38 @@ use Prim.Native.Nat.{ℕ, ◌≤◌, ◌<◌}
 use mathlib.Core.Path.{◌≡◌, refl, sym, ap, ◌∙◌}
 use mathlib.Core.Bool.{Bool, true, false, not, cond}
 use mathlib.Core.List.{List, ◌++◌}
-use native.Mathlib.Omega.{arith}
-use lib.ListN.{length, take, drop}
-use lib.Dec.{eqb, ltb}
-use borrow.Author.Tests.{lt-ltb, le-ltb, ltb-false}
+use lib.ListN.{length, drop}
+use Rattle.std.specs.Prelude.{Result, Ok, Err}
+use Rattle.squares.proofs.Laws.{le-or-lt}
+use Rattle.position.specs.declared.answers.Refusal.TheVariants.{ShortBuffer}
+use mathlib.Core.Logic.{◌⊎◌, inl, inr}
+use borrow.Author.Tests.{lt-ltb, le-ltb}
 use Rattle.position.specs.declared.position.Position.{Position}
 use Rattle.position.specs.declared.answers.Told.{Told}
-use Rattle.position.specs.Sound.{sound, first_fault}
-use Rattle.position.specs.Answers.{first_fact, told_by, query_facts, told_query, soundness_told}
+use Rattle.position.specs.declared.answers.Refusal.{Refusal}
+use Rattle.position.specs.Sound.{sound}
+use Rattle.position.specs.Answers.{done, told_of, first_fact, told_by, query_facts, told_query, soundness_told}
+use Rattle.position.proofs.Laws.{refusal_number, passes_sound}
 use Rattle.sfen.specs.Text.{position_text}
-use Rattle.sfen.specs.declared.write.TextAnswer.{TextAnswer}
-use Rattle.sfen.specs.Writes.{write_facts, text_answer, bytes_after}
-use Rattle.sfen.specs.Inner.{fitted}
+use Rattle.sfen.specs.Writes.{text_given, write_facts, text_answer, bytes_after}
 
-module _ (p : Position) (t : Told) (e : t ≡ soundness_told p) where
-  unsound : (t.number ≡ 0 → ⊥) → sound p ≡ false
-  unfolding soundness_told told_query told_by query_facts first_fact
-  unsound d = go (sound p) (λ z. d (ap (λ (x : Told). x.number) e ∙ z))
-    where
-      go : (s : Bool) → (◌≡◌ {A = ℕ} (cond (not s) 1 0) 0 → ⊥) → s ≡ false
-      go true d = absurd (d refl)
-      go false d = refl
+unsound : (p : Position) (r : Refusal) → told_of r ≡ soundness_told p → sound p ≡ false
+unfolding soundness_told told_query told_by query_facts first_fact
+unsound p r e = go (sound p) (λ z. refusal_number r (ap (λ (x : Told). x.number) e ∙ z))
+  where
+    go : (s : Bool) → (◌≡◌ {A = ℕ} (cond (not s) 1 0) 0 → ⊥) → s ≡ false
+    go true d = absurd (d refl)
+    go false d = refl
 
-  -- an unsound position is refused by what the soundness test says
-  pub unsound_refused : (bytes : List ℕ) → (t.number ≡ 0 → ⊥) → (◌≡◌ {A = TextAnswer} (record { told = t; length = 0 }) (text_answer p bytes)) × (bytes ≡ bytes_after p bytes)
-  unfolding soundness_told told_query told_by query_facts first_fact write_facts text_answer bytes_after
-  unsound_refused bytes d = let s = unsound d in (rw (e, s), rw s)
+-- an unsound position is refused by what the soundness test says
+pub unsound_refused : (p : Position) (bytes : List ℕ) (r : Refusal) → told_of r ≡ soundness_told p
+    → (text_given (Err r) ≡ text_answer p bytes) × (bytes ≡ bytes_after p bytes)
+unfolding soundness_told told_query told_by query_facts first_fact write_facts text_answer bytes_after
+unsound_refused p bytes r e = let s = unsound p r e in (rw (e, s), rw s)
 
-  pub sound_passes : t.number ≡ 0 → sound p ≡ true
-  unfolding soundness_told told_query told_by query_facts first_fact
-  sound_passes z = go (sound p) (sym (ap (λ (x : Told). x.number) e) ∙ z)
-    where
-      go : (s : Bool) → ◌≡◌ {A = ℕ} (cond (not s) 1 0) 0 → s ≡ true
-      go true h = refl
-      go false h = let x : ◌≡◌ {A = ℕ} 1 0 = h in absurd (omega arith)
+pub sound_told : (p : Position) → done ≡ soundness_told p → sound p ≡ true
+unfolding soundness_told
+sound_told p e = passes_sound p false e
 
 module _ (p : Position) (bytes : List ℕ) (s : sound p ≡ true) where
   pub short_refused : length bytes < length (position_text p)
@@ -51,22 +49,19 @@ module _ (p : Position) (bytes : List ℕ) (s : sound p ≡ true) where
   unfolding told_by first_fact write_facts text_answer bytes_after
   fitting_written h = let t = le-ltb _ _ h in (rw (s, t), rw (s, t))
 
-  -- the same as the code does it: a line that begins with the text, of which all or nothing is copied
-  pub written : (r : TextAnswer) (whole : ℕ) (line after : List ℕ) → whole ≡ length (position_text p) → take whole line ≡ position_text p
-      → r ≡ fitted whole (length bytes) → after ≡ take r.length line ++ drop r.length bytes → (r ≡ text_answer p bytes) × (after ≡ bytes_after p bytes)
-  unfolding told_by first_fact write_facts text_answer bytes_after fitted
-  written r whole line after len front answer copied = rw (s, ← len, ← front) (go (ltb (length bytes) whole) answer)
+  -- the same as the code does it: a text is copied whole or not at all
+  pub whole : (text after : List ℕ) (r : Result ℕ Refusal) → text ≡ position_text p
+      → (length bytes < length text → (r ≡ Err ShortBuffer) × (after ≡ bytes))
+      → (length text ≤ length bytes → (r ≡ Ok (length text)) × (after ≡ text ++ drop (length text) bytes))
+      → (text_given r ≡ text_answer p bytes) × (after ≡ bytes_after p bytes)
+  whole text after r t short fitting = go (le-or-lt (length text) (length bytes))
     where
-      go : (short : Bool) → r ≡ record { told = record { number = cond short 12 0; square = 0 }; length = cond short 0 whole }
-          → (r ≡ record { told = record { number = cond short 12 0; square = cond (eqb (cond short 12 0) 1) (first_fault p) 0 }; length = cond (eqb (cond short 12 0) 0) whole 0 })
-          × (after ≡ cond (eqb (cond short 12 0) 0) (take whole line ++ drop whole bytes) bytes)
-      go true e = (e, copied ∙ rw e)
-      go false e = (e, copied ∙ rw e)
-
-pub fitted-small : (whole room : ℕ) → ((fitted whole room).length ≤ whole) × ((fitted whole room).length ≤ room)
-unfolding fitted
-fitted-small whole room = go (ltb room whole) refl
-  where
-    go : (b : Bool) → ltb room whole ≡ b → (cond b 0 whole ≤ whole) × (cond b 0 whole ≤ room)
-    go true e = (omega arith, omega arith)
-    go false e = (omega arith, ltb-false room whole e)
+      go : (length text ≤ length bytes) ⊎ (length bytes < length text) → (text_given r ≡ text_answer p bytes) × (after ≡ bytes_after p bytes)
+      go (inl h) =
+          let f = fitting h in
+          let w = fitting_written (rw t at h) in
+          (rw (f.0, t) (sym w.0), rw (f.1, t) (sym w.1))
+      go (inr h) =
+          let f = short h in
+          let w = short_refused (rw t at h) in
+          (rw f.0 (sym w.0), rw f.1 (sym w.1))

@@ -1,10 +1,16 @@
 -- The writer's answer, and the lent bytes after it.
-use Rattle.std.specs.Prelude.{ℕ, not, cond, List, [], ◌∷◌, ◌++◌, length, drop, eqb, ltb}
+use Rattle.std.specs.Prelude.{ℕ, not, cond, List, [], ◌∷◌, ◌++◌, length, drop, eqb, ltb, Result, Ok, Err}
 use Rattle.position.specs.declared.position.Position.{Position}
+use Rattle.position.specs.declared.answers.Refusal.{Refusal}
 use Rattle.position.specs.Sound.{sound}
-use Rattle.position.specs.Answers.{Fact, gives, first_fact, told_by}
+use Rattle.position.specs.Answers.{done, told_of, Fact, gives, first_fact, told_by}
 use Rattle.sfen.specs.Text.{position_text}
 use Rattle.sfen.specs.declared.write.TextAnswer.{TextAnswer}
+
+-- "If an answer is an enum, a definition gives this paper's number and values for each of its cases"
+abbrev pub text_given : Result ℕ Refusal → TextAnswer
+text_given (Ok n) = record { told = done; length = n }
+text_given (Err r) = record { told = told_of r; length = 0 }
 
 -- "Order: 2, then 1, then .. for the writer 12"; "12: lent buffer shorter than the text"
 unfoldable pub write_facts : Position → List ℕ → List Fact

@@ -1,54 +1,53 @@
 // The board's part of the text: ranks 1 to 9, each from file 9 to file 1.
-ghost use Rattle.std.specs.Prelude.{◌≤◌};
-ghost use Rattle.sfen.specs.Text.{run, rank_text, rank_cells, board_text, shogi};
-ghost use Rattle.sfen.specs.Inner.{Room, Puts};
+#![tactic(auto, using(crate::proofs::Cases::board_cases))]
 
-use crate::letters::put_piece;
-use crate::line::put;
+ghost use Rattle.std.specs.Prelude.{◌≡◌, ◌++◌, ◌≤◌};
+ghost use Rattle.sfen.specs.Text.{run, rank_text, rank_cells, board_text, shogi};
+ghost use Rattle.sfen.specs.Inner.{Fits};
+
+use crate::line::Line;
 use squares::Square;
 
-// A run of empty cells as one digit; none where there is none.
-fn put_run(line: &mut [u8; 168], at: usize, empty: u8) -> usize
-    requires { Room line.old at (run empty) × (empty ≤ 9) }
-    ensures { Puts line.old at line.new result (run empty) }
-{
-    if empty == 0 {
-        return at;
-    }
-    put(line, at, 48 + empty)
-}
-
-fn put_rank(line: &mut [u8; 168], at: usize, board: &[u8; Square::NUM], rank: usize) -> usize
-    requires { Room line.old at (rank_text 0 (rank_cells 9 board.now rank)) × (1 ≤ rank) × (rank ≤ 9) }
-    ensures { Puts line.old at line.new result (rank_text 0 (rank_cells 9 board.now rank)) }
-{
-    let mut to = at;
-    let mut empty: u8 = 0;
-    let mut file: usize = 9;
-    while 0 < file {
-        file -= 1;
-        let cell = board[9 * file + rank - 1];
-        if cell == 0 {
-            empty += 1;
-        } else {
-            to = put_run(line, to, empty);
-            to = put_piece(line, to, cell);
-            empty = 0;
+impl Line {
+    // A run of empty cells as one digit; none where there is none.
+    fn put_run(&mut self, empty: u8)
+        requires room { Fits (self.old ++ run empty) }
+        requires digit { empty ≤ 9 }
+        ensures { self.new ≡ self.old ++ run empty }
+    {
+        if empty != 0 {
+            self.put(48 + empty);
         }
     }
-    put_run(line, to, empty)
-}
 
-pub(crate) fn put_board(line: &mut [u8; 168], at: usize, board: &[u8; Square::NUM]) -> usize
-    requires { Room line.old at (board_text shogi board.now) }
-    ensures { Puts line.old at line.new result (board_text shogi board.now) }
-{
-    let mut to = put_rank(line, at, board, 1);
-    let mut rank: usize = 2;
-    while rank <= 9 {
-        to = put(line, to, b'/');
-        to = put_rank(line, to, board, rank);
-        rank += 1;
+    fn put_rank(&mut self, board: &[u8; Square::NUM], rank: usize)
+        requires room { Fits (self.old ++ rank_text 0 (rank_cells 9 board.now rank)) }
+        requires on_board { (1 ≤ rank) × (rank ≤ 9) }
+        ensures { self.new ≡ self.old ++ rank_text 0 (rank_cells 9 board.now rank) }
+    {
+        let mut empty: u8 = 0;
+        // So many files lie before it, nine cells each: `rank_cells` counts them so.
+        for file in (0..9).rev() {
+            let cell = board[9 * file + rank - 1];
+            if cell == 0 {
+                empty += 1;
+            } else {
+                self.put_run(empty);
+                self.put_piece(cell);
+                empty = 0;
+            }
+        }
+        self.put_run(empty);
     }
-    to
+
+    pub(crate) fn put_board(&mut self, board: &[u8; Square::NUM])
+        requires { Fits (self.old ++ board_text shogi board.now) }
+        ensures { self.new ≡ self.old ++ board_text shogi board.now }
+    {
+        self.put_rank(board, 1);
+        for rank in 2..=9 {
+            self.put(b'/');
+            self.put_rank(board, rank);
+        }
+    }
 }

@@ -1,49 +1,50 @@
 // The hands' part of the text: `-`, or Black's then White's, each in the order R B G S N L P.
-ghost use Rattle.std.specs.Prelude.{◌≤◌};
-ghost use Rattle.sfen.specs.Text.{count_text, hand_text, hands_text, shogi};
-ghost use Rattle.sfen.specs.Inner.{Room, Puts};
+#![tactic(auto, using(crate::proofs::Cases::hands_cases))]
+
+ghost use Rattle.std.specs.Prelude.{◌≡◌, ◌++◌, ◌≤◌, length};
+ghost use Rattle.sfen.specs.Text.{letter_of, count_text, hand_text, hands_text, shogi};
+ghost use Rattle.sfen.specs.Inner.{Fits};
 
 use crate::letters::letter;
-use crate::line::{put, put_number};
+use crate::line::Line;
+use squares::Color;
 
-// So many of a kind: the count only above 1.
-fn put_count(line: &mut [u8; 168], at: usize, letter: u8, n: u8) -> usize
-    requires { Room line.old at (count_text letter n) }
-    ensures { Puts line.old at line.new result (count_text letter n) }
-{
-    if n == 0 {
-        return at;
+impl Line {
+    // So many of a kind: the count only above 1.
+    fn put_count(&mut self, color: u8, kind: u8, n: u8)
+        requires { Fits (self.old ++ count_text (letter_of color kind) n) }
+        ensures { self.new ≡ self.old ++ count_text (letter_of color kind) n }
+    {
+        if n == 0 {
+            return;
+        }
+        if n != 1 {
+            self.put_number(u16::from(n));
+        }
+        self.put(letter(color, kind));
     }
-    if n == 1 {
-        return put(line, at, letter);
-    }
-    let next = put_number(line, at, n as u16);
-    put(line, next, letter)
-}
 
-fn put_hand(line: &mut [u8; 168], at: usize, hands: &[u8; 14], color: u8) -> usize
-    requires { Room line.old at (hand_text shogi.held hands.now color) × (1 ≤ color) × (color ≤ 2) }
-    ensures { Puts line.old at line.new result (hand_text shogi.held hands.now color) }
-{
-    let from = (color - 1) as usize * 7;
-    let mut to = at;
-    let mut kind: u8 = 7;
-    while 0 < kind {
-        let n = hands[from + (kind - 1) as usize];
-        to = put_count(line, to, letter(color, kind), n);
-        kind -= 1;
+    fn put_hand(&mut self, hands: &[u8; 14], color: u8)
+        requires room { Fits (self.old ++ hand_text shogi.held hands.now color) }
+        requires good_color { (1 ≤ color) × (color ≤ 2) }
+        ensures { self.new ≡ self.old ++ hand_text shogi.held hands.now color }
+    {
+        // Where the hand begins: its seven are read in turn, by the numbers of their kinds, as `hand_text` has it.
+        let from = usize::from(color - 1) * 7;
+        for kind in (1..=7).rev() {
+            self.put_count(color, kind, hands[from + usize::from(kind - 1)]);
+        }
     }
-    to
-}
 
-pub(crate) fn put_hands(line: &mut [u8; 168], at: usize, hands: &[u8; 14]) -> usize
-    requires { Room line.old at (hands_text shogi hands.now) }
-    ensures { Puts line.old at line.new result (hands_text shogi hands.now) }
-{
-    let black = put_hand(line, at, hands, 1);
-    let both = put_hand(line, black, hands, 2);
-    if both == at {
-        return put(line, at, b'-');
+    pub(crate) fn put_hands(&mut self, hands: &[u8; 14])
+        requires { Fits (self.old ++ hands_text shogi hands.now) }
+        ensures { self.new ≡ self.old ++ hands_text shogi hands.now }
+    {
+        let before = self.written().len();
+        self.put_hand(hands, Color::BLACK);
+        self.put_hand(hands, Color::WHITE);
+        if self.written().len() == before {
+            self.put(b'-');
+        }
     }
-    both
 }

@@ -1,16 +1,17 @@
 // The writer: the whole text into a line of its own, and from there into the caller's bytes, if it fits.
-ghost use Rattle.std.specs.Prelude.{◌≡◌, ◌++◌, ◌≤◌, length, take, drop};
-ghost use Rattle.sfen.specs.Text.{side_byte, text, shogi};
-ghost use Rattle.sfen.specs.Writes.{text_answer, bytes_after};
-ghost use Rattle.sfen.specs.Inner.{Room, Puts, fitted};
+#![tactic(auto, using(crate::proofs::Cases::text_cases))]
 
-use crate::board::put_board;
-use crate::hands::put_hands;
-use crate::line::{put, put_number};
-use position::{Position, Told};
-use squares::Square;
+ghost use Rattle.std.specs.Prelude.{◌≡◌, ◌++◌, ◌<◌, ◌≤◌, length, drop};
+ghost use Rattle.position.specs.declared.answers.Refusal.TheVariants.{ShortBuffer};
+ghost use Rattle.sfen.specs.Text.{side_byte, position_text};
+ghost use Rattle.sfen.specs.Writes.{text_given, text_answer, bytes_after};
+ghost use Rattle.sfen.specs.Inner.{Fits};
 
-// The number with the square that goes with 1, and how many bytes were written: 0 on a refusal.
+use crate::line::Line;
+use position::{Position, Refusal, Told};
+use squares::Color;
+
+// What C is handed: the number with the square that goes with 1, and how many bytes were written, 0 on a refusal.
 #[repr(C)]
 #[derive(Clone, Copy)]
 pub struct TextAnswer {
@@ -18,82 +19,64 @@ pub struct TextAnswer {
     pub length: usize,
 }
 
+impl From<Result<usize, Refusal>> for TextAnswer {
+    ghost from_gives = { λ answer text. text ≡ text_given answer };
+
+    fn from(answer: Result<usize, Refusal>) -> Self {
+        match answer {
+            Ok(length) => Self {
+                told: Told::from(Ok(())),
+                length,
+            },
+            Err(refusal) => Self {
+                told: Told::from(refusal),
+                length: 0,
+            },
+        }
+    }
+}
+
+#[tactic(auto, unfolding(crate::specs::Text::side_byte))]
 fn side_byte(side: u8) -> u8
     ensures { result ≡ side_byte side }
 {
-    if side == 1 { b'b' } else { b'w' }
+    if side == Color::BLACK { b'b' } else { b'w' }
 }
 
-fn put_text<'a>(
-    line: &mut [u8; 168],
-    board: &'a [u8; Square::NUM],
-    side: u8,
-    hands: &'a [u8; 14],
-    ply: u16,
-) -> usize
-    requires { Room line.old 0 (text shogi board.now side hands.now ply) }
-    ensures { Puts line.old 0 line.new result (text shogi board.now side hands.now ply) }
-{
-    let at = put_board(line, 0, board);
-    let at = put(line, at, b' ');
-    let at = put(line, at, side_byte(side));
-    let at = put(line, at, b' ');
-    let at = put_hands(line, at, hands);
-    let at = put(line, at, b' ');
-    put_number(line, at, ply)
-}
-
-// The first `n` bytes of the line into the first of `out`.
-fn copy_front(line: &[u8; 168], n: usize, out: &mut [u8])
-    requires { (length line.now ≡ 168) × (n ≤ 168) × (n ≤ length out.old) }
-    ensures { out.new ≡ take n line.now ++ drop n out.old }
-{
-    let mut i: usize = 0;
-    while i < n {
-        out[i] = line[i];
-        i += 1;
+impl Line {
+    fn put_position(&mut self, position: &Position)
+        requires { Fits (self.old ++ position_text position.now) }
+        ensures { self.new ≡ self.old ++ position_text position.now }
+    {
+        self.put_board(&position.board);
+        self.put(b' ');
+        self.put(side_byte(position.side));
+        self.put(b' ');
+        self.put_hands(&position.hands);
+        self.put(b' ');
+        self.put_number(position.ply);
     }
 }
 
-// The answer where there is room for `room` bytes: all of the text or nothing.
-fn verdict(whole: usize, room: usize) -> TextAnswer
-    ensures { result ≡ fitted whole room }
+// All of a text in the first bytes of `out`, or none of it.
+fn copy_whole(text: &[u8], out: &mut [u8]) -> Result<usize, Refusal>
+    ensures short { length out.old < length text.now → (result ≡ Err ShortBuffer) × (out.new ≡ out.old) }
+    ensures fitting { length text.now ≤ length out.old → (result ≡ Ok (length text.now)) × (out.new ≡ text.now ++ drop (length text.now) out.old) }
 {
-    if room < whole {
-        let told = Told {
-            number: 12,
-            square: 0,
-        };
-        let length = 0;
-        return TextAnswer { told, length };
+    if out.len() < text.len() {
+        return Err(Refusal::ShortBuffer);
     }
-    let told = Told {
-        number: 0,
-        square: 0,
-    };
-    let length = whole;
-    TextAnswer { told, length }
+    out[..text.len()].copy_from_slice(text);
+    Ok(text.len())
 }
 
-// The text in the first bytes of `out`, and no other byte changed. 1 for an unsound position, then 12 where `out` is shorter
-// than the text: no byte is changed.
-pub fn write_sfen(position: Position, out: &mut [u8]) -> TextAnswer
-    ensures { (result ≡ text_answer position out.old) × (out.new ≡ bytes_after position out.old) }
+// The text in the first bytes of `out`, and no other byte changed; the answer is how many. 1 for an unsound position, then 12
+// where `out` is shorter than the text: no byte is changed.
+pub fn write_sfen(position: Position, out: &mut [u8]) -> Result<usize, Refusal>
+    ensures { (text_given result ≡ text_answer position out.old) × (out.new ≡ bytes_after position out.old) }
 {
-    let told = position.soundness();
-    if told.number != 0 {
-        return TextAnswer { told, length: 0 };
-    }
-    let mut line = [0u8; 168];
-    let whole = put_text(
-        &mut line,
-        &position.board,
-        position.side,
-        &position.hands,
-        position.ply,
-    );
-    let answer = verdict(whole, out.len());
-    let length = answer.length;
-    copy_front(&line, length, out);
-    answer
+    position.soundness()?;
+    let mut line = Line::new();
+    line.put_position(&position);
+    copy_whole(line.written(), out)
 }

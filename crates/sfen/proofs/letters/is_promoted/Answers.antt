@@ -1,17 +1,10 @@
-use Prim.Native.Nat.{ℕ}
-use mathlib.Core.Path.{sym, ap, ◌∙◌}
-use mathlib.Core.Bool.{not}
-use lib.Dec.{eqb}
-use Rattle.squares.specs.Answers.{number_given}
-use Rattle.squares.proofs.Laws.{unpromoted-value}
+use Rattle.std.proofs.Common.{◌≡◌, ◌∙◌}
+use Rattle.squares.specs.Kinds.{kind_row}
+use Rattle.squares.proofs.Laws.{number-or, unpromoted-value}
 use Rattle.sfen.proofs.letters.is_promoted.Goals as goal
 
-pub returns-in-Number : goal.returns-in-Number
-returns-in-Number c =
+pub returns : goal.returns
+returns c =
     let k = c.args.kind in
-    ap (λ (x : ℕ). not (eqb x k)) (unpromoted-value k _ (ap number_given (sym c.in-Number.is) ∙ c.unpromote.ensures))
-
-pub returns-in-BadNumber : goal.returns-in-BadNumber
-returns-in-BadNumber c =
-    let k = c.args.kind in
-    ap (λ (x : ℕ). not (eqb x k)) (unpromoted-value k _ (ap number_given (sym c.in-BadNumber.is) ∙ c.unpromote.ensures))
+    let is : c.unwrap_or.result ≡ (kind_row k).unpromoted = c.unwrap_or.ensures ∙ number-or c.unpromote.result ∙ unpromoted-value k _ c.unpromote.ensures in
+    rw is
