@@ -1,41 +1,36 @@
-// The calls that hand a position back: the moves, ops 34 and 49, and the edits, ops 35 to 38.
-use crate::numbers::{Args, Numbers, byte, two_bytes};
-use crate::positions::{put_position, put_told};
+// The calls that hand a position back: the moves, ops 34 and 49, and the edits, ops 35 to 38. Ops by number: see ops.rt.
+use crate::answer::{Answer, Value};
+use crate::args::{Arg, parse};
 use lent::make_move_through;
-use position::{Answer, Move, Position};
+use position::{Position, Refusal};
 
-// A move goes by value, or through a lent position.
-pub fn answer(op: u64, p: Position, args: Args) -> Answer {
-    let n = byte(args.a);
+pub fn answer(op: u64, args: &[u64], answer: &mut Answer) -> Option<()> {
     match op {
-        34 => p.make_move(move_of(args)),
-        35 => p.piece_set(n, byte(args.b)),
-        36 => p.hand_set(n, byte(args.b), byte(args.c)),
-        37 => p.side_to_move_set(n),
-        38 => p.ply_set(two_bytes(args.a)),
-        _ => make_move_through(p, move_of(args)),
+        34 => change(args, answer, Position::make_move),
+        35 => change(args, answer, |p, (square, cell)| {
+            p.piece_set(square, cell)
+        }),
+        36 => change(args, answer, |p, (color, kind, count)| {
+            p.hand_set(color, kind, count)
+        }),
+        37 => change(args, answer, Position::side_to_move_set),
+        38 => change(args, answer, Position::ply_set),
+        // As 34, through a lent position.
+        49 => change(args, answer, make_move_through),
+        _ => None,
     }
 }
 
-// The move of four numbers that are of the form.
-pub fn move_of(args: Args) -> Move {
-    let to = byte(args.c);
-    if args.a == 1 {
-        return Move::Normal {
-            from: byte(args.b),
-            to,
-            promote: args.d == 1,
-        };
-    }
-    Move::Drop {
-        piece: byte(args.b),
-        to,
-    }
-}
-
-pub fn put(ans: &mut Numbers, answer: Answer) -> usize {
-    let told = answer.told;
-    let position = answer.position;
-    let at = put_told(ans, told);
-    put_position(ans, at, position)
+// Where the call is refused the position is as given.
+fn change<A: Arg, F: Fn(Position, A) -> Result<Position, Refusal>>(
+    args: &[u64],
+    answer: &mut Answer,
+    call: F,
+) -> Option<()>
+    requires { F.IsAlwaysCallable call }
+{
+    let (given, value) = parse(args)?;
+    let after = call(given, value);
+    answer.put_result(after.map(|_| ()))?;
+    after.unwrap_or(given).put(answer)
 }

@@ -1,135 +1,122 @@
 // Reads case lines on standard input, and writes an answer line for each on standard output.
 #![tactic(auto)]
 
+mod answer;
+mod args;
 mod change_ops;
 mod emit;
+mod line;
 mod number_ops;
-mod numbers;
 mod ops;
 mod positions;
 mod query_ops;
-mod ranges;
-mod scan;
 mod set_ops;
 mod text_ops;
 
-use emit::{Bytes, Gathered, ROOM};
-use numbers::{MOST, Numbers};
-use scan::Line;
+use answer::Answer;
+use emit::{Output, ROOM};
+use line::Line;
+use std::fmt;
 use std::io::Read;
 
-// The line that is being read, the answers that are not written yet, and whether to read on.
-#[derive(Drop)]
-struct State {
-    line: Line,
-    gathered: Gathered,
-    more: bool,
+// What ends a run before the input does.
+#[derive(Clone, Copy)]
+pub enum Failure {
+    Reading,
+    Writing,
 }
 
-impl State {
-    // The same with all answers written. A write that failed ends the run: nobody would get what follows.
-    fn written(self, out: &Bytes, more: bool) -> Self {
-        let line = self.line;
-        let unwritten = self.gathered;
-        let gathered = unwritten.flush(out);
-        Self {
-            line,
-            gathered,
-            more: more && gathered.open,
+impl fmt::Display for Failure {
+    fn fmt<W: fmt::Write>(&self, f: &mut fmt::Formatter<W>) -> fmt::Result {
+        match self {
+            Failure::Reading => write!(f, "reading failed"),
+            Failure::Writing => write!(f, "writing failed"),
         }
     }
 }
 
-// Nothing says that the input ends, so the turns are counted, up to a number that no run uses up.
+// A program ends with 0 whatever it does: a line on standard error says that it failed.
 fn main(rt: HostRuntime) {
-    let mut nums = [0u64; MOST];
-    let mut ans = [0u64; MOST];
-    let mut out = [0u8; ROOM];
-    let mut state = State {
-        line: Line::new(),
-        gathered: Gathered::new(rt),
-        more: true,
-    };
-    for _ in 0..u64::MAX {
-        if !state.more {
-            return;
-        }
-        state = turn(state, rt, &mut nums, &mut ans, &mut out);
+    if let Err(failure) = Run::new(rt).all() {
+        let _ = eprintln!(rt; "cases: {failure}");
     }
 }
 
-// One read, and the answers to the lines that end in it. They are written at once: whoever sends a line and waits is
-// answered.
-fn turn(
-    state: State,
+// The line that is being read, the answer to the last one, and the answers that are not written yet.
+#[derive(Drop)]
+struct Run {
     rt: HostRuntime,
-    nums: &mut Numbers,
-    ans: &mut Numbers,
-    out: &mut Bytes,
-) -> State {
-    let mut input = [0u8; ROOM];
-    match rt.stdin().read(&mut input) {
-        Ok(0) => finish(state, nums, ans, out).written(out, false),
-        Ok(n) => take_all(state, &input[..n], nums, ans, out).written(out, true),
-        Err(_) => unread(state, rt),
-    }
+    line: Line,
+    answer: Answer,
+    output: Output,
 }
 
-// After a read that failed: what was read of a line is no line, and all answers are written.
-fn unread(state: State, rt: HostRuntime) -> State {
-    let _ = rt.eprintln("cases: reading failed");
-    State {
-        line: state.line,
-        gathered: state.gathered,
-        more: false,
+impl Run {
+    fn new(rt: HostRuntime) -> Self {
+        Self {
+            rt,
+            line: Line::new(),
+            answer: Answer::new(),
+            output: Output::new(rt),
+        }
     }
-}
 
-// After the input: a last line without a newline is a line.
-fn finish(state: State, nums: &mut Numbers, ans: &mut Numbers, out: &mut Bytes) -> State {
-    let line = state.line;
-    if line.begun() {
-        return end_line(state, nums, ans, out);
+    // Nothing says that the input ends, so the turns are counted, up to a number that no run uses up.
+    fn all(mut self) -> Result<(), Failure> {
+        for _ in 0..u64::MAX {
+            if !self.turn()? {
+                break;
+            }
+        }
+        Ok(())
     }
-    state
-}
 
-fn take_all(
-    state: State,
-    bytes: &[u8],
-    nums: &mut Numbers,
-    ans: &mut Numbers,
-    out: &mut Bytes,
-) -> State {
-    let mut state = state;
-    for b in bytes {
-        state = take(state, *b, nums, ans, out);
+    // One read, and the answers to the lines that end in it: whether there may be more to read. The answers are written
+    // at once: whoever sends a line and waits is answered. (`read` fills a slice, and its count lives for one line.)
+    fn turn(&mut self) -> Result<bool, Failure> {
+        let mut input = [0u8; ROOM];
+        let n = self
+            .rt
+            .stdin()
+            .read(&mut input)
+            .map_err(|_| Failure::Reading)?;
+        if n == 0 {
+            self.finish()?;
+        }
+        self.take(&input[..n])?;
+        self.output.flush()?;
+        Ok(n != 0)
     }
-    state
-}
 
-fn take(state: State, b: u8, nums: &mut Numbers, ans: &mut Numbers, out: &mut Bytes) -> State {
-    if b == b'\n' {
-        return end_line(state, nums, ans, out);
+    // After the input: a last line without a newline is a line.
+    fn finish(&mut self) -> Result<(), Failure> {
+        if self.line.has_begun() {
+            self.end_line()?;
+        }
+        Ok(())
     }
-    let line = state.line;
-    let gathered = state.gathered;
-    State {
-        line: line.step(nums, b),
-        gathered,
-        more: state.more,
-    }
-}
 
-// Answers the line that ends here.
-fn end_line(state: State, nums: &mut Numbers, ans: &mut Numbers, out: &mut Bytes) -> State {
-    let line = state.line;
-    let gathered = state.gathered;
-    let count = line.end(nums);
-    let given = ops::answer(nums, count, ans);
-    State {
-        line: Line::new(),
-        gathered: gathered.put_line(out, ans, given),
-        more: state.more,
+    fn take(&mut self, bytes: &[u8]) -> Result<(), Failure> {
+        for b in bytes {
+            match b {
+                b'\n' => self.end_line()?,
+                _ => self.line.take(*b),
+            }
+        }
+        Ok(())
+    }
+
+    fn end_line(&mut self) -> Result<(), Failure> {
+        match self.answer_line() {
+            Some(()) => self.output.put_line(self.answer.as_slice())?,
+            None => self.output.put_malformed()?,
+        }
+        self.line.clear();
+        Ok(())
+    }
+
+    fn answer_line(&mut self) -> Option<()> {
+        self.answer.clear();
+        ops::answer(self.line.end()?, &mut self.answer)
     }
 }

@@ -2,77 +2,92 @@
 // from the Rust, where that has such a call.
 #![tactic(auto)]
 
-mod print;
+mod told;
 
-use print::{Out, form, number, put, truth};
-use squares::{Bitboard, Color, Marks, Piece, PieceKind, Square};
+use squares::{BadNumber, Bitboard, Color, Marks, Piece, PieceKind, Square};
+use std::io;
+use told::Told;
 
+// A program ends with 0 whatever it does: a line on standard error says that it failed.
 fn main(rt: HostRuntime) {
-    let mut out = Out::new(rt);
-    for n in 0..256u16 {
-        out = row(out, (n % 256) as u8);
+    if print_all(&rt).is_err() {
+        let _ = eprintln!(rt; "tables: writing failed");
     }
-    for n in 0..64u8 {
-        out = made_piece(out, n / 4, n % 4);
+}
+
+// After a write that failed nothing more is written.
+fn print_all(rt: &impl Print) -> io::Result<()> {
+    for n in 0..=u8::MAX {
+        print_row(rt, n)?;
+    }
+    for kind in 0..16u8 {
+        for color in 0..4u8 {
+            println!(rt; "{kind} {color} {}", Told(Piece::new(kind, color)))?;
+        }
     }
     for bit in 0..64u8 {
-        out = one_bit(out, bit);
+        print_bit(rt, bit)?;
     }
+    Ok(())
 }
 
 // What each call makes of one number.
-fn row(out: Out, n: u8) -> Out {
-    let out = put(out, n as u64, b' ');
-    board(pieces(squares_and_kinds(out, n), n), n)
+fn print_row(rt: &impl Print, n: u8) -> io::Result<()> {
+    print!(rt; "{n} ")?;
+    print_squares_and_kinds(rt, n)?;
+    print_pieces(rt, n)?;
+    print_board(rt, n)
 }
 
-fn squares_and_kinds(out: Out, n: u8) -> Out {
-    let out = truth(out, Square::is_good(n), b' ');
-    let out = number(out, Square::flip(n), b' ');
-    let out = truth(out, Color::is_good(n), b' ');
-    let out = number(out, Color::flip(n), b' ');
-    let out = truth(out, PieceKind::is_good(n), b' ');
-    form(out, PieceKind::hand_kind(n), b' ')
+fn print_squares_and_kinds(rt: &impl Print, n: u8) -> io::Result<()> {
+    print!(rt;
+        "{} {} {} {} {} {} ",
+        u8::from(Square::is_good(n)),
+        Told(Square::flip(n)),
+        u8::from(Color::is_good(n)),
+        Told(Color::flip(n)),
+        u8::from(PieceKind::is_good(n)),
+        Told::from(PieceKind::hand_kind(n)),
+    )
 }
 
-fn pieces(out: Out, n: u8) -> Out {
-    let out = truth(out, Piece::is_cell(n), b' ');
-    let out = truth(out, Piece::is_good(n), b' ');
-    let out = number(out, Piece::kind(n), b' ');
-    let out = number(out, Piece::color(n), b' ');
-    let out = form(out, Piece::promote(n), b' ');
-    number(out, Piece::unpromote(n), b' ')
+fn print_pieces(rt: &impl Print, n: u8) -> io::Result<()> {
+    print!(rt;
+        "{} {} {} {} {} {} ",
+        u8::from(Piece::is_cell(n)),
+        u8::from(Piece::is_good(n)),
+        Told(Piece::kind(n)),
+        Told(Piece::color(n)),
+        Told::from(Piece::promote(n)),
+        Told(Piece::unpromote(n)),
+    )
 }
 
 // What Marks::of makes of a board with that cell everywhere: its number, and how many squares are Black's and White's.
-fn board(out: Out, n: u8) -> Out {
-    let marks = Marks::of(&[n; Square::NUM]);
-    let black = marks.players[0];
-    let white = marks.players[1];
-    let out = put(out, marks.number as u64, b' ');
-    let out = put(out, black.count() as u64, b' ');
-    put(out, white.count() as u64, b'\n')
-}
-
-fn made_piece(out: Out, kind: u8, color: u8) -> Out {
-    let out = put(out, kind as u64, b' ');
-    let out = put(out, color as u64, b' ');
-    number(out, Piece::new(kind, color), b'\n')
+fn print_board(rt: &impl Print, n: u8) -> io::Result<()> {
+    match Marks::of(&[n; Square::NUM]) {
+        Ok(marks) => {
+            let [black, white] = marks.players;
+            println!(rt; "0 {} {}", black.count(), white.count())
+        }
+        Err(BadNumber) => println!(rt; "2 0 0"),
+    }
 }
 
 // Whether the set of one bit is empty, whether it is exactly itself, and whether the empty set is exactly it, in the first word and in
 // the second: the stray bits are no squares.
-fn one_bit(out: Out, bit: u8) -> Out {
-    let one: u64 = 1;
-    let mask = one << (bit % 64);
-    let first = Bitboard { lo: mask, hi: 0 };
-    let second = Bitboard { lo: 0, hi: mask };
-    let out = put(out, bit as u64, b' ');
-    let out = truth(out, first.is_empty(), b' ');
-    let out = truth(out, second.is_empty(), b' ');
+fn print_bit(rt: &impl Print, bit: u8) -> io::Result<()> {
+    let mask = 1u64 << (bit % 64);
     let none = Bitboard::empty();
-    let out = truth(out, first.is_exactly(first), b' ');
-    let out = truth(out, second.is_exactly(second), b' ');
-    let out = truth(out, none.is_exactly(first), b' ');
-    truth(out, none.is_exactly(second), b'\n')
+    let first = Bitboard { lo: mask, ..none };
+    let second = Bitboard { hi: mask, ..none };
+    println!(rt;
+        "{bit} {} {} {} {} {} {}",
+        u8::from(first.is_empty()),
+        u8::from(second.is_empty()),
+        u8::from(first.is_exactly(first)),
+        u8::from(second.is_exactly(second)),
+        u8::from(none.is_exactly(first)),
+        u8::from(none.is_exactly(second)),
+    )
 }
