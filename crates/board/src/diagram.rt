@@ -1,219 +1,104 @@
-// The board as a person sees it: files 9 to 1 above, ranks a to i at the side. A place is three bytes wide: + or a space,
-// the letter, and * or a space.
-use crate::notation::{or_zero, small};
-use crate::out::{Out, say, say_byte, say_number};
-use crate::text::{say_part, text_of};
-use position::{LastMove, Move, Position};
-use squares::{Bitboard, Color, Piece, PieceKind, TruthAnswer};
+// The board as a person sees it: files 9 to 1 above, ranks a to i at the side.
+use crate::notation::letter;
+use position::{Move, Position};
+use squares::{BadNumber, Bitboard, Piece, PieceKind, Square};
+use std::fmt;
 
-const SIZE: usize = 297;
-
-type Grid = [u8; SIZE];
-
-const VACANT: Grid = *b" 9  8  7  6  5  4  3  2  1
- .  .  .  .  .  .  .  .  .  a
- .  .  .  .  .  .  .  .  .  b
- .  .  .  .  .  .  .  .  .  c
- .  .  .  .  .  .  .  .  .  d
- .  .  .  .  .  .  .  .  .  e
- .  .  .  .  .  .  .  .  .  f
- .  .  .  .  .  .  .  .  .  g
- .  .  .  .  .  .  .  .  .  h
- .  .  .  .  .  .  .  .  .  i
-";
-
-// Where the place of 9a begins, the first.
-const FIRST: usize = 27;
-
-fn place_of(square: u8) -> usize {
-    match square {
-        1..=81 => {
-            let i = (square - 1) as usize;
-            FIRST + 30 * (i % 9) + 3 * (8 - i / 9)
-        }
-        _ => SIZE,
-    }
+// A place is three letters wide: + or a space, the letter, and * or a space.
+#[derive(Clone, Copy)]
+struct Place {
+    is_promoted: bool,
+    letter: char,
+    is_marked: bool,
 }
 
-// With a byte in one of the three parts of a place.
-fn put(grid: Grid, place: usize, part: usize, b: u8) -> Grid {
-    let mut grid = grid;
-    if place < SIZE - 3 {
-        if part < 3 {
-            grid[place + part] = b;
-        }
-    }
-    grid
-}
-
-pub fn show(out: Out, p: Position) -> Out {
-    let answer = p.last_move();
-    let last = answer.last;
-    let text = text_of(p);
-    let grid = marked(drawing(&text), last);
-    let out = say(out, &grid);
-    let out = hand(out, p, Color::BLACK);
-    let out = hand(out, p, Color::WHITE);
-    let out = turn(out, p.side, p.ply);
-    say_part(say_last(out, last), &text, 0, 1)
-}
-
-// The pieces of a position's text, which stand before its first space.
-fn drawing(text: &[u8; 168]) -> Grid {
-    let mut grid = VACANT;
-    let mut place = FIRST;
-    for i in 0..168usize {
-        let b = text[i];
-        if b == b' ' {
-            return grid;
-        }
-        let next = drawn(grid, place, b);
-        grid = next;
-        place = passed(place, b);
-    }
-    grid
-}
-
-fn drawn(grid: Grid, place: usize, b: u8) -> Grid {
-    match b {
-        b'+' => put(grid, place, 0, b),
-        b'A'..=b'z' => put(grid, place, 1, b),
-        _ => grid,
-    }
-}
-
-// The place of what follows a byte of the text: a + leaves its piece's place, and a slash passes the rank's letter and the
-// newline, which are as wide as a place.
-fn passed(place: usize, b: u8) -> usize {
-    if SIZE <= place {
-        return SIZE;
-    }
-    match b {
-        b'+' => place,
-        b'1'..=b'9' => place + 3 * (b - b'0') as usize,
-        _ => place + 3,
-    }
-}
-
-// With the squares that the last move left and reached.
-fn marked(grid: Grid, last: LastMove) -> Grid {
-    let LastMove::Was(m) = last else {
-        return grid;
+impl Place {
+    const VACANT: Place = Place {
+        is_promoted: false,
+        letter: '.',
+        is_marked: false,
     };
-    match m {
-        Move::Normal { from, to, promote } => mark(mark(grid, from), to),
-        Move::Drop { piece, to } => mark(grid, to),
+
+    // A cell that is no piece is vacant.
+    fn of(cell: u8) -> Self {
+        Self::of_piece(cell).unwrap_or(Self::VACANT)
+    }
+
+    fn of_piece(piece: u8) -> Result<Self, BadNumber> {
+        let kind = Piece::kind(piece)?;
+        Ok(Self {
+            is_promoted: PieceKind::unpromote(kind)? != kind,
+            letter: letter(kind, Piece::color(piece)?)?,
+            is_marked: false,
+        })
     }
 }
 
-fn mark(grid: Grid, square: u8) -> Grid {
-    put(grid, place_of(square), 2, b'*')
+impl fmt::Display for Place {
+    fn fmt<W: fmt::Write>(&self, f: &mut fmt::Formatter<W>) -> fmt::Result {
+        f.write_char(if self.is_promoted { '+' } else { ' ' })?;
+        f.write_char(self.letter)?;
+        f.write_char(if self.is_marked { '*' } else { ' ' })
+    }
 }
 
-// What a colour holds, in the order of the text of a position.
-fn hand(out: Out, p: Position, color: u8) -> Out {
-    let mut out = say(say_color(out, color), b" holds");
-    let mut none = true;
-    for i in 0..7u8 {
-        let answer = p.hand(color, 7 - i);
-        let count = answer.value;
-        if count != 0 {
-            none = false;
-            out = held(out, count, letter(color, 7 - i));
+// The places of the squares, in their order.
+#[derive(Clone, Copy)]
+pub struct Diagram {
+    places: [Place; Square::NUM],
+}
+
+impl Diagram {
+    // The pieces, with the squares marked that the last move left and reached.
+    pub fn of(p: Position) -> Self {
+        let mut diagram = Self {
+            places: p.board.map(Place::of),
+        };
+        match p.last_move() {
+            Ok(Some(Move::Normal { from, to, .. })) => {
+                diagram.mark(from);
+                diagram.mark(to);
+            }
+            Ok(Some(Move::Drop { to, .. })) => diagram.mark(to),
+            _ => {}
+        }
+        diagram
+    }
+
+    fn mark(&mut self, square: u8) {
+        if let 1..=81 = square {
+            self.places[usize::from(square) - 1].is_marked = true;
         }
     }
-    if none {
-        out = say(out, b" nothing");
-    }
-    say(out, b"\n")
-}
 
-fn say_color(out: Out, color: u8) -> Out {
-    if color == Color::BLACK {
-        say(out, b"Black")
-    } else {
-        say(out, b"White")
-    }
-}
-
-// The letter of a kind, small for White.
-fn letter(color: u8, kind: u8) -> u8 {
-    let capital = or_zero(PieceKind::letter(kind));
-    if color == Color::BLACK {
-        capital
-    } else {
-        small(capital)
-    }
-}
-
-fn held(out: Out, count: u8, letter: u8) -> Out {
-    let mut out = say(out, b" ");
-    if 1 < count {
-        out = say_number(out, count as u64);
-    }
-    say_byte(out, letter)
-}
-
-fn turn(out: Out, side: u8, ply: u16) -> Out {
-    let out = say(say_color(out, side), b" to move, ply ");
-    say(say_number(out, ply as u64), b"\n")
-}
-
-// The last move in the notation in which it is typed.
-fn say_last(out: Out, last: LastMove) -> Out {
-    let LastMove::Was(m) = last else {
-        return say(out, b"No last move\n");
-    };
-    let out = say_move(say(out, b"Last move "), m);
-    say(out, b", marked *\n")
-}
-
-fn say_move(out: Out, m: Move) -> Out {
-    match m {
-        Move::Normal { from, to, promote } => {
-            let out = say_square(say_square(out, from), to);
-            if promote { say(out, b"+") } else { out }
+    // A set of squares as lamps: o where one is lit.
+    pub fn lit(set: Bitboard) -> Self {
+        let mut places = [Place::VACANT; Square::NUM];
+        for (place, square) in places.iter_mut().zip(1..=81u8) {
+            if set.contains(square) == Ok(true) {
+                place.letter = 'o';
+            }
         }
-        Move::Drop { piece, to } => {
-            let capital = letter(Color::BLACK, or_zero(Piece::kind(piece)));
-            say_square(say(say_byte(out, capital), b"*"), to)
+        Self { places }
+    }
+
+    // Backwards file 9 comes first, and each file from its last rank on: a rank is every ninth place, behind those of the ranks
+    // below it.
+    fn write_rank<W: fmt::Write>(&self, f: &mut fmt::Formatter<W>, below: usize) -> fmt::Result {
+        for place in self.places.iter().rev().skip(below).step_by(9) {
+            write!(f, "{place}")?;
         }
+        Ok(())
     }
 }
 
-fn say_square(out: Out, square: u8) -> Out {
-    match square {
-        1..=81 => {
-            let i = square - 1;
-            let letters = [b'1' + i / 9, b'a' + i % 9];
-            say(out, &letters)
+impl fmt::Display for Diagram {
+    fn fmt<W: fmt::Write>(&self, f: &mut fmt::Formatter<W>) -> fmt::Result {
+        f.write_str(" 9  8  7  6  5  4  3  2  1\n")?;
+        for (below, letter) in (0..9usize).rev().zip('a'..='i') {
+            self.write_rank(f, below)?;
+            writeln!(f, " {letter}")?;
         }
-        _ => out,
-    }
-}
-
-// A set of squares as lamps: o where one is lit.
-pub fn show_lamps(out: Out, set: Bitboard) -> Out {
-    let grid = lamps(set);
-    let out = say(out, &grid);
-    let out = say_number(out, set.count() as u64);
-    say(out, b" lit\n")
-}
-
-fn lamps(set: Bitboard) -> Grid {
-    let mut grid = VACANT;
-    for square in 1..82u8 {
-        if is_lit(set, square) {
-            let lit = put(grid, place_of(square), 1, b'o');
-            grid = lit;
-        }
-    }
-    grid
-}
-
-fn is_lit(set: Bitboard, square: u8) -> bool {
-    match set.contains(square) {
-        TruthAnswer::Truth(lit) => lit,
-        TruthAnswer::BadNumber => false,
+        Ok(())
     }
 }

@@ -1,60 +1,50 @@
 // The command `lamps`: a set of squares, lit.
-use crate::commands::PUT;
-use crate::diagram::show_lamps;
-use crate::line::{Word, place_in};
-use crate::notation::{byte, kind, square};
-use crate::out::Out;
-use crate::text::{NOTHING_THERE, reason, say_line};
-use position::{Position, Stands, ToldSet};
+use crate::message::Message;
+use crate::notation::{kind, square};
+use position::Position;
+use squares::{Bitboard, Color};
 
-// What a set's word stands for: a square as it is, a kind above KINDS, and above NAMED the two colours by their numbers,
-// the occupied and the vacant squares.
-const KINDS: u32 = 100;
+#[derive(Clone, Copy)]
+pub enum Lamps {
+    Player(u8),
+    Kind(u8),
+    Occupied,
+    Vacant,
+    // All pieces like the one on a square.
+    LikeAt(u8),
+}
 
-const NAMED: u32 = 200;
+impl Lamps {
+    pub fn read(word: &[u8]) -> Option<Self> {
+        match word {
+            b"black" => Some(Lamps::Player(Color::BLACK)),
+            b"white" => Some(Lamps::Player(Color::WHITE)),
+            b"occupied" => Some(Lamps::Occupied),
+            b"vacant" => Some(Lamps::Vacant),
+            _ => match kind(word) {
+                Some(kind) => Some(Lamps::Kind(kind)),
+                None => square(word).map(Lamps::LikeAt),
+            },
+        }
+    }
 
-pub fn lamp(word: Word) -> u32 {
-    let place = place_in(b"black\nwhite\noccupied\nvacant\n", word);
-    let k = kind(word);
-    if place != 0 {
-        NAMED + place as u32
-    } else if k < KINDS {
-        KINDS + k
-    } else {
-        square(word)
+    // The squares that are lit, or why there are none to light.
+    pub fn set(self, p: Position) -> Result<Bitboard, Message> {
+        let set = match self {
+            Lamps::Player(color) => p.player_bitboard(color)?,
+            Lamps::Kind(kind) => p.piece_kind_bitboard(kind)?,
+            Lamps::Occupied => p.occupied_bitboard()?,
+            Lamps::Vacant => p.vacant_bitboard()?,
+            Lamps::LikeAt(square) => like_at(p, square)?,
+        };
+        Ok(set)
     }
 }
 
-pub fn lamps(out: Out, p: Position, set: u32) -> Out {
-    match set {
-        201 | 202 => light(out, p.player_bitboard(byte(set - NAMED))),
-        203 => light(out, p.occupied_bitboard()),
-        204 => light(out, p.vacant_bitboard()),
-        101..=199 => light(out, p.piece_kind_bitboard(byte(set - KINDS))),
-        _ => lamps_at(out, p, byte(set)),
-    }
-}
-
-// The set of the piece on a square.
-fn lamps_at(out: Out, p: Position, square: u8) -> Out {
-    let answer = p.piece_at(square);
-    let told = answer.told;
-    let stands = answer.stands;
-    if told.number != 0 {
-        return say_line(out, reason(told.number, PUT, 0));
-    }
-    match stands {
-        Stands::Piece(piece) => light(out, p.piece_bitboard(piece)),
-        Stands::Nothing => say_line(out, NOTHING_THERE),
-    }
-}
-
-// A set, or why there is none.
-fn light(out: Out, answer: ToldSet) -> Out {
-    let told = answer.told;
-    let set = answer.set;
-    if told.number != 0 {
-        return say_line(out, told.number);
-    }
-    show_lamps(out, set)
+fn like_at(p: Position, square: u8) -> Result<Bitboard, Message> {
+    let piece = p
+        .piece_at(square)
+        .map_err(|why| Message::refused(why, Message::NoSquare))?
+        .ok_or(Message::NothingThere)?;
+    Ok(p.piece_bitboard(piece)?)
 }

@@ -1,140 +1,99 @@
-// A line word by word. A word is obeyed, or its number kept, when it ends, so that a line may be as long as a game.
+// A line as far as it is read: its words are taken one by one, so that it may be as long as a game.
+use crate::command::Command;
+use crate::message::Message;
+use arrayvec::ArrayVec;
+use std::io;
 
-// The longest name of a command has ten letters, so a word of this many is none, and no more of it is kept.
-const ROOM: usize = 12;
+// The longest name of a command has ten letters, so a word of twelve is none, and no more of it is kept or shown. (A Vec could run
+// out of memory, and then a line that has an answer would get none.)
+pub type Word = ArrayVec<u8, 12>;
 
-// The first letters of a word, with newlines behind them, and how many they are.
-#[derive(Clone, Copy)]
-pub struct Word {
-    pub length: usize,
-    pub letters: [u8; ROOM],
+// Whether a word is that name.
+pub fn is(word: &Word, name: &[u8]) -> bool {
+    word.as_slice() == name
 }
 
-impl Word {
-    pub fn empty() -> Self {
+// No command takes more than three words, so a fourth is one too many, and no more are kept.
+pub type Words = ArrayVec<Word, 4>;
+
+// What stands before the moves of a line.
+#[derive(Clone, Copy, PartialEq, Eq)]
+pub enum Lead {
+    Nothing,
+    Move,
+    Startpos,
+    StartposMoves,
+}
+
+// The moves of a line so far, which were played: what stands before them, and the number of the one to come.
+#[derive(Clone, Copy, PartialEq, Eq)]
+pub struct Moves {
+    lead: Lead,
+    number: usize,
+}
+
+impl Moves {
+    pub fn none_after(lead: Lead) -> Self {
+        Self { lead, number: 1 }
+    }
+
+    pub fn with_one_more(self) -> Self {
         Self {
-            length: 0,
-            letters: [b'\n'; ROOM],
+            lead: self.lead,
+            number: self.number.saturating_add(1),
         }
     }
 
-    fn then(self, b: u8) -> Self {
-        let at = self.length;
-        let mut letters = self.letters;
-        if at < ROOM {
-            letters[at] = b;
-            return Self {
-                length: at + 1,
-                letters,
-            };
+    fn are_from_start(self) -> bool {
+        matches!(self.lead, Lead::Startpos | Lead::StartposMoves)
+    }
+
+    // Where the board is after them.
+    fn place(self) -> &'static str {
+        if 1 < self.number {
+            "the moves before it stay"
+        } else if self.are_from_start() {
+            "the board is at the start position"
+        } else {
+            "the board is as it was"
         }
-        self
     }
 }
 
-// The command; how many words were taken, itself among them; the numbers of the first three behind it; the word that is being
-// read, and what it orders. Once a word is refused it stays there, with the line to say, and only whether something follows is
-// noted.
-#[derive(Clone, Copy)]
-pub struct Line {
-    pub command: u8,
-    pub count: usize,
-    pub first: u32,
-    pub second: u32,
-    pub third: u32,
+#[derive(Drop)]
+pub enum Line {
+    Blank,
+    // The first word is neither a command nor a move.
+    Unknown,
+    // A command with the words behind it, which is obeyed when the line ends.
+    Command { command: Command, words: Words },
+    Moves(Moves),
+    Stopped(Stop),
+}
+
+// A word that was refused as the next of some moves, and whether something follows it.
+#[derive(Drop)]
+pub struct Stop {
+    pub moves: Moves,
     pub word: Word,
-    pub refused: u8,
-    pub followed: bool,
-    pub order: u8,
+    pub why: Message,
+    pub is_followed: bool,
 }
 
-impl Line {
-    pub fn empty() -> Self {
-        Self {
-            command: 0,
-            count: 0,
-            first: 0,
-            second: 0,
-            third: 0,
-            word: Word::empty(),
-            refused: 0,
-            followed: false,
-            order: 0,
+impl Stop {
+    // Says of several moves, and of any from the start, which was refused and where the board is after it.
+    pub fn say(&self, rt: &impl Print) -> io::Result<()> {
+        rt.println(self.why)?;
+        if self.is_alone() {
+            return Ok(());
         }
+        print!(rt; "stopped at move {}, ", self.moves.number)?;
+        // A word need not be text.
+        rt.write_all(self.word.as_slice())?;
+        println!(rt; ": {}", self.moves.place())
     }
 
-    // With one more letter.
-    pub fn then(self, b: u8) -> Self {
-        let mut line = self;
-        if self.refused != 0 {
-            line.followed = true;
-            return line;
-        }
-        let word = self.word;
-        let longer = word.then(b);
-        line.word = longer;
-        line
+    fn is_alone(&self) -> bool {
+        self.moves.number <= 1 && !self.is_followed && !self.moves.are_from_start()
     }
-
-    // After the command.
-    pub fn begun(command: u8) -> Self {
-        let mut line = Self::empty();
-        line.command = command;
-        line.count = 1;
-        line
-    }
-
-    // After a word that is taken, with its number; there are no more than three to keep.
-    pub fn taken(self, number: u32) -> Self {
-        let mut line = self;
-        let count = self.count;
-        match count {
-            1 => line.first = number,
-            2 => line.second = number,
-            _ => line.third = number,
-        }
-        if count < usize::MAX {
-            line.count = count + 1;
-        }
-        let none = Word::empty();
-        line.word = none;
-        line
-    }
-
-    // After a word that is refused.
-    pub fn stopped(self, word: Word, why: u8) -> Self {
-        let mut line = self;
-        line.refused = why;
-        line.word = word;
-        line
-    }
-
-    pub fn ordered(self, order: u8) -> Self {
-        let mut line = self;
-        line.order = order;
-        line
-    }
-}
-
-// The place of a word, counted from 1, among names that end in a newline each; 0 where it is none of them.
-pub fn place_in(names: &[u8], word: Word) -> u8 {
-    let letters = word.letters;
-    let n = names.len();
-    let mut place = 1;
-    let mut at = 0;
-    let mut same = true;
-    for i in 0..n {
-        let b = names[i];
-        same = same && b == letters[at % 12];
-        at = at % 12 + 1;
-        if b == b'\n' {
-            if same {
-                return place;
-            }
-            place = place % 255 + 1;
-            at = 0;
-            same = true;
-        }
-    }
-    0
 }

@@ -1,85 +1,86 @@
 // A shogi board to type at: reads commands on standard input, one a line, and answers each on standard output.
 #![tactic(auto)]
 
-mod changes;
-mod commands;
+mod command;
+mod console;
 mod diagram;
-mod game;
+mod edit;
 mod lamps;
 mod line;
+mod message;
 mod notation;
-mod out;
-mod text;
+mod request;
+mod view;
 
-use commands::{State, end_line, end_word};
-use diagram::show;
-use out::{Out, say};
-use position::Position;
+use console::Console;
+use message::Message;
+use std::io;
 use std::io::{IsTerminal, Read};
-use text::{BYE, GREETING, say_line};
 
 const CHUNK: usize = 4096;
 
-// Nothing says that the input ends, so the turns are counted, up to a number that no run uses up.
+// Why the program ends before its input does.
+#[derive(Clone, Copy, PartialEq, Eq)]
+pub enum Ending {
+    Quit,
+    ReadingFailed,
+    WritingFailed,
+}
+
+// What is read has an error of its own, so this is one of writing.
+impl From<io::Error> for Ending {
+    fn from(_error: io::Error) -> Self {
+        Ending::WritingFailed
+    }
+}
+
+// The program ends with 0 whatever it does: a line on standard error says that it failed.
 fn main(rt: HostRuntime) {
+    let _ = match run(&rt) {
+        Err(Ending::ReadingFailed) => rt.eprintln("board: reading failed"),
+        Err(Ending::WritingFailed) => rt.eprintln("board: writing failed"),
+        Err(Ending::Quit) | Ok(()) => Ok(()),
+    };
+}
+
+// Nothing says that the input ends, so the turns are counted, up to a number that no run uses up.
+fn run(rt: &HostRuntime) -> Result<(), Ending> {
     let typed = rt.stdin().is_terminal();
-    let mut state = State::before(Position::startpos(), greet(Out::new(rt), typed));
+    let mut console = Console::new();
+    if typed {
+        rt.println(Message::Greeting)?;
+        console.show(rt)?;
+    }
     for _ in 0..u64::MAX {
-        state.out = cue(state.out, typed);
-        if !state.out.is_open() {
-            return;
+        if typed {
+            rt.print("> ")?;
         }
-        state = turn(state, rt, typed);
+        if !turn(rt, &mut console)? {
+            return finish(rt, &mut console, typed);
+        }
     }
+    Ok(())
 }
 
-fn greet(out: Out, typed: bool) -> Out {
-    if !typed {
-        return out;
-    }
-    show(say_line(out, GREETING), Position::startpos())
-}
-
-// What a person is shown before each line.
-fn cue(out: Out, typed: bool) -> Out {
-    if typed { say(out, b"> ") } else { out }
-}
-
-// One read, and the answers to the lines that end in it. What a read that failed cut short is no line.
-fn turn(state: State, rt: HostRuntime, typed: bool) -> State {
+// One read, and the answers to the lines that end in it; whether there was anything to read. What a read that failed cut short is
+// no line. (`read` fills a slice, and its count lives for this function.)
+fn turn(rt: &HostRuntime, console: &mut Console) -> Result<bool, Ending> {
     let mut input = [0u8; CHUNK];
-    match rt.stdin().read(&mut input) {
-        Ok(0) => finish(state, typed),
-        Ok(n) => take_all(state, &input[..n]),
-        Err(_) => State::before(state.position, state.out.failed("board: reading failed")),
+    let n = rt
+        .stdin()
+        .read(&mut input)
+        .map_err(|_| Ending::ReadingFailed)?;
+    for b in &input[..n] {
+        console.take(rt, *b)?;
     }
+    Ok(0 < n)
 }
 
 // After the input: a last line without a newline is a line.
-fn finish(state: State, typed: bool) -> State {
-    let last = take(state, b'\n');
-    let out = if typed {
-        say_line(last.out, BYE)
-    } else {
-        last.out
-    };
-    State::before(last.position, out.closed())
-}
-
-fn take_all(state: State, bytes: &[u8]) -> State {
-    let mut state = state;
-    for b in bytes {
-        if state.out.is_open() {
-            state = take(state, *b);
-        }
+fn finish(rt: &HostRuntime, console: &mut Console, typed: bool) -> Result<(), Ending> {
+    console.take(rt, b'\n')?;
+    if typed {
+        rt.println(Message::Bye)?;
     }
-    state
-}
-
-fn take(state: State, b: u8) -> State {
-    match b {
-        b'\n' => end_line(end_word(state)),
-        b' ' | b'\t' | b'\r' => end_word(state),
-        _ => State::within(state.position, state.line.then(b), state.out),
-    }
+    Ok(())
 }
