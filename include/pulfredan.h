@@ -5,7 +5,7 @@
  * one square to another, or from a hand to a square.
  *
  * The archive (`rt lib --cpu x86-64` in crates/firmware) is code for x86-64, with the calling convention of Linux there. It needs two
- * functions of its host, memcpy and memset, keeps nothing between calls, and may run freestanding. Of stack a call takes up to 3.8 kB, as
+ * functions of its host, memcpy and memset, keeps nothing between calls, and may run freestanding. Of stack a call takes up to 2.7 kB, as
  * measured: keep 4 kB free. It uses the SSE registers: a kernel or an interrupt handler that makes a call must have SSE enabled, and save
  * and restore those registers.
  *
