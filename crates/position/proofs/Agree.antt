@@ -9,7 +9,6 @@ use native.Mathlib.Numerals.{add-one}
 use lib.ListN.{length, get_or}
 use lib.Seq.{ext_get_or}
 use lib.Dec.{eqb}
-use borrow.Author.Count.{below_more}
 use Rattle.squares.specs.declared.bitboard.Bitboard.{Bitboard}
 use Rattle.squares.specs.Sets.{has, clean, empty_s, exactly}
 use Rattle.squares.proofs.Laws.{le-or-lt, get_d_any, exactly-same, exactly_other}
@@ -80,12 +79,6 @@ module _ (a b : List Bitboard) (k : ℕ) (la : length a ≡ k) (lb : length b �
 
   pub equal_at : (j : ℕ) (d e : Bitboard) → j < k → exactly (get_or a j d) (get_or b j e) ≡ true → get_or a j empty_s ≡ get_or b j empty_s
   equal_at j d e h w = get_d_any a j empty_s d (omega arith) ∙ exactly-same (get_or a j d) (get_or b j e) (clean_at j e h) w ∙ get_d_any b j e empty_s (omega arith)
-
-  -- where all others are equal, the last decides
-  pub compared_last : (j : ℕ) (d e : Bitboard) (r : Bool) → j + 1 ≡ k → ((i : ℕ) → i < j → get_or a i empty_s ≡ get_or b i empty_s) → r ≡ exactly (get_or a j d) (get_or b j e) → Compared a b r
-  compared_last j d e true z h w =
-      compared_all (λ i q. below_more (λ n. get_or a n empty_s ≡ get_or b n empty_s) j h (equal_at j d e (omega arith) (sym w)) i (omega arith))
-  compared_last j d e false z h w = compared_at j d e (omega arith) (sym w)
 
 -- ---- a set and a mark
 pub disagrees_is : (sets : List Bitboard) (mark n j : ℕ) (d : Bitboard) → j < length sets

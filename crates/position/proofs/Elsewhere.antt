@@ -1,7 +1,7 @@
--- The faults that are no cell's: kings, counts, the ply, the last move.
+-- The faults that are no cell's: kings, counts, the ply.
 use mathlib.Core.Path.{◌≡◌, refl, sym, ap, ◌∙◌}
 use Prim.Native.Nat.{ℕ, zero, suc, ◌+◌, ◌-◌, ◌≤◌, ◌<◌}
-use mathlib.Core.Bool.{Bool, true, false, ◌&&◌, not, or-false}
+use mathlib.Core.Bool.{Bool, true, false, ◌&&◌, not}
 use mathlib.Core.List.{List}
 use native.Mathlib.Omega.{arith}
 use lib.ListN.{get_or}
@@ -9,32 +9,12 @@ use lib.Dec.{eqb, leb}
 use lib.Arith.{lt_of_le-ne}
 use borrow.Author.Tests.{eq-eqb, ne_eqb, le-leb, lt-leb, leb-true}
 use Rattle.squares.specs.declared.bitboard.Bitboard.{Bitboard}
-use Rattle.squares.specs.Board.{on_board}
-use Rattle.squares.specs.Kinds.{kind_row, good_piece}
+use Rattle.squares.specs.Kinds.{kind_row}
 use Rattle.squares.specs.Sets.{size, is_empty, smallest}
 use Rattle.squares.specs.Answers.{FormValue, promoted_answer, pop_answer}
 use Rattle.squares.proofs.Laws.{both, eqb_same, promoted-small, promoted-value, promoted-some, empty-size, pop-square, pop_nothing, smallest_at, smallest-none, size_none}
-use Rattle.position.specs.Sound.{top_ply, good_ply, good_last}
+use Rattle.position.specs.Sound.{top_ply, good_ply}
 use Rattle.position.specs.Inner.{king_off, promoted_at, sets_size, over_by_sets}
-use Rattle.position.specs.declared.mv.MoveNumbers.{MoveNumbers}
-
--- ---- the last move, by its tag
-module _ (l : MoveNumbers) where
-  pub last_none : l.tag ≡ 0 → eqb l.a 0 && (eqb l.b 0 && eqb l.promote 0) ≡ good_last l
-  unfolding good_last
-  last_none e = rw e (sym (or-false (eqb l.a 0 && (eqb l.b 0 && eqb l.promote 0))))
-
-  pub last-normal : l.tag ≡ 1 → on_board 9 l.a && (on_board 9 l.b && leb l.promote 1) ≡ good_last l
-  unfolding good_last
-  last-normal e = rw e (sym (or-false (on_board 9 l.a && (on_board 9 l.b && leb l.promote 1))))
-
-  pub last-drop : l.tag ≡ 2 → good_piece l.a && (on_board 9 l.b && eqb l.promote 0) ≡ good_last l
-  unfolding good_last
-  last-drop e = rw e
-
-  pub last_bad : (l.tag ≡ 0 → ⊥) → (l.tag ≡ 1 → ⊥) → (l.tag ≡ 2 → ⊥) → false ≡ good_last l
-  unfolding good_last
-  last_bad a b c = rw (ne_eqb l.tag 0 a, ne_eqb l.tag 1 b, ne_eqb l.tag 2 c)
 
 -- ---- the ply
 pub ply_range : (n : ℕ) → good_ply n ≡ true → (1 ≤ n) × (n ≤ top_ply)

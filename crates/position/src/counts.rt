@@ -63,6 +63,7 @@ pub(crate) fn is_ply(ply: u16) -> bool
 }
 
 // Whether a king square is not that of its king.
+#[tactic(auto, using(crate::proofs::Tidiness::black_off, crate::proofs::Tidiness::white_off))]
 fn kings_off(p: &Position) -> bool
     requires { Tidy p.now }
     ensures { result ≡ king_wrong p.now.board 8 p.now.bking || king_wrong p.now.board 24 p.now.wking }

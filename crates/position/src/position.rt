@@ -35,6 +35,7 @@ impl Position {
     ];
 
     // No piece, Black to move, ply 1.
+    #[tactic(auto, unfolding(squares::specs::Sets::first_of, crate::specs::Machine::king_square, crate::specs::Machine::full, crate::specs::Machine::empty_position), using(squares::proofs::Laws::empty_colour, squares::proofs::Laws::black_kind, squares::proofs::Laws::family_zeros))]
     pub fn empty() -> Self
         ensures { result ≡ empty_position }
     {

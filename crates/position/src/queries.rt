@@ -31,6 +31,7 @@ fn king_at(square: u8) -> Option<u8>
 }
 
 // The set of a mark, a colour or a kind.
+#[tactic(auto, using(crate::proofs::Asking::mark_at))]
 fn mark_set(sets: &[Bitboard], mark: u8) -> Bitboard
     requires { (1 ≤ mark) × (mark ≤ length sets.now) }
     ensures { result ≡ mark_set sets.now mark }

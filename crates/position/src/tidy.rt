@@ -5,6 +5,7 @@ ghost use Rattle.position.specs.Inner.{AllClean, Compared, TidyTold};
 use crate::position::Position;
 use squares::{Bitboard, Marks};
 
+#[tactic(auto, using(crate::proofs::Agree::compared_all, crate::proofs::Agree::compared_at, crate::proofs::Agree::equal_at))]
 fn same_sets(stored: &[Bitboard], made: &[Bitboard]) -> bool
     requires { (length stored.now ≡ length made.now) × AllClean made.now }
     ensures { Compared stored.now made.now result }

@@ -67,11 +67,7 @@ module _ (good : Bool) (w : ℕ) (r : Result ℕ BadNumber) (q : number_given r 
       at true p = absurd (differ (sym (ap (λ (v : NumberValue). v.number) p)))
       at false p = refl
 
-  -- a number that passes its refusal on
-  pub number-passed : (v : ℕ) (s : Result ℕ BadNumber) {e : BadNumber} → r ≡ Err e → IsErr s → number_given s ≡ number_if good v
-  number-passed v s e h = ap number_given (refused s h) ∙ ap (λ (g : Bool). number_if g v) (sym (told-bad e))
-
-  -- and a set
+  -- a set that passes its refusal on
   pub set-passed : (v : Bitboard) (s : Result Bitboard BadNumber) {e : BadNumber} → r ≡ Err e → IsErr s → set_given s ≡ set_if good v
   set-passed v s e h = ap set_given (refused s h) ∙ ap (λ (g : Bool). set_if g v) (sym (told-bad e))
 

@@ -39,6 +39,7 @@ impl Bitboard {
         }
     }
 
+    #[tactic(auto, using(crate::proofs::Members::empty_words))]
     pub fn empty() -> Self
         ensures { result ≡ empty_s }
     {
@@ -62,12 +63,14 @@ impl Bitboard {
     }
 
     // How many squares the set has. (`as` loses nothing of 81, and try_from would bring in a refusal that never comes.)
+    #[tactic(auto, using(crate::proofs::Counts::count_words))]
     pub fn count(self) -> u8
         ensures { result ≡ size self }
     {
         ((self.lo & Self::MASK0).count_ones() + (self.hi & Self::MASK1).count_ones()) as u8
     }
 
+    #[tactic(auto, using(crate::proofs::Lowest::empty_by_words))]
     pub fn is_empty(self) -> bool
         ensures { result ≡ is_empty self }
     {
@@ -76,6 +79,7 @@ impl Bitboard {
     }
 
     // Whether it has no stray bit, and just the squares of the other: the one call that looks for stray bits, in its first set.
+    #[tactic(auto, using(crate::proofs::Exact::exact_lo, crate::proofs::Exact::exact_not_lo))]
     pub fn is_exactly(self, other: Self) -> bool
         ensures { result ≡ exactly self other }
     {
@@ -95,18 +99,21 @@ impl Bitboard {
         }
     }
 
+    #[tactic(auto, using(crate::proofs::Words::or_words))]
     pub fn or(self, other: Self) -> Self
         ensures { result ≡ or_s self other }
     {
         Self::clean(self.lo | other.lo, self.hi | other.hi)
     }
 
+    #[tactic(auto, using(crate::proofs::Words::and_words))]
     pub fn and(self, other: Self) -> Self
         ensures { result ≡ and_s self other }
     {
         Self::clean(self.lo & other.lo, self.hi & other.hi)
     }
 
+    #[tactic(auto, using(crate::proofs::Words::xor_words))]
     pub fn xor(self, other: Self) -> Self
         ensures { result ≡ xor_s self other }
     {
@@ -114,6 +121,7 @@ impl Bitboard {
     }
 
     // What is in the second and not in the first.
+    #[tactic(auto, using(crate::proofs::Words::andnot_words))]
     pub fn andnot(self, other: Self) -> Self
         ensures { result ≡ andnot_s self other }
     {
@@ -121,6 +129,7 @@ impl Bitboard {
     }
 
     // Every other square of the 81.
+    #[tactic(auto, using(crate::proofs::Words::not_words))]
     pub fn not(self) -> Self
         ensures { result ≡ not_s self }
     {
@@ -137,6 +146,7 @@ impl Bitboard {
         }
     }
 
+    #[tactic(auto, using(crate::proofs::Files::file_lo, crate::proofs::Files::file_hi))]
     fn file_set(file: u8, pattern: u16) -> Self
         requires { (1 ≤ file) × (file ≤ 9) × (pattern < 512) }
         ensures { result ≡ file_s file pattern }
@@ -154,6 +164,7 @@ impl Bitboard {
     }
 
     // The pattern of one file: bit 0 is rank A.
+    #[tactic(auto, using(crate::proofs::Steps::side_low, crate::proofs::Steps::side_high, crate::proofs::Files::pattern_good, crate::proofs::Files::pattern_bad))]
     pub fn get_file(self, file: u8) -> Result<u16, BadNumber>
         ensures { number_given result ≡ get_file_answer self file }
     {
@@ -164,6 +175,7 @@ impl Bitboard {
     }
 
     // (`as` as in `count`: nine bits remain.)
+    #[tactic(auto, using(crate::proofs::Files::pattern_lo, crate::proofs::Files::pattern_hi))]
     fn file_pattern(self, file: u8) -> u16
         requires { (1 ≤ file) × (file ≤ 9) }
         ensures { result ≡ pattern_of self file }

@@ -16,12 +16,14 @@ impl Color {
 
     pub const WHITE: u8 = 2;
 
+    #[tactic(auto, using(crate::proofs::Numbers::colour_good, crate::proofs::Numbers::colour_low, crate::proofs::Numbers::colour_high))]
     pub fn is_good(color: u8) -> bool
         ensures { result ≡ good_colour color }
     {
         matches!(color, 1..=2)
     }
 
+    #[tactic(auto, unfolding(crate::specs::Kinds::other_colour, crate::specs::Answers::other_colour_answer), using(crate::proofs::Numbers::colour_range))]
     pub fn flip(color: u8) -> Result<u8, BadNumber>
         ensures { number_given result ≡ other_colour_answer color }
     {

@@ -18,6 +18,7 @@ impl Piece {
     }
 
     // Whether a cell may hold this number: 0, or a piece.
+    #[tactic(auto, unfolding(crate::specs::Kinds::good_cell))]
     pub fn is_cell(cell: u8) -> bool
         ensures { result ≡ good_cell cell }
     {
@@ -25,6 +26,7 @@ impl Piece {
     }
 
     // The piece of a kind and a colour.
+    #[tactic(auto, unfolding(crate::specs::Kinds::piece_of, crate::specs::Kinds::good_colour, crate::specs::Answers::piece_answer), using(crate::proofs::Numbers::kind_range, crate::proofs::Numbers::colour_none))]
     pub fn new(kind: u8, color: u8) -> Result<u8, BadNumber>
         ensures { number_given result ≡ piece_answer kind color }
     {
@@ -38,6 +40,7 @@ impl Piece {
         }
     }
 
+    #[tactic(auto, unfolding(crate::specs::Kinds::good_kind, crate::specs::Kinds::kind_of, crate::specs::Kinds::good_piece, crate::specs::Answers::kind_answer))]
     pub fn kind(piece: u8) -> Result<u8, BadNumber>
         ensures { number_given result ≡ kind_answer piece }
     {
@@ -48,6 +51,7 @@ impl Piece {
         }
     }
 
+    #[tactic(auto, unfolding(crate::specs::Kinds::colour_of, crate::specs::Kinds::good_kind, crate::specs::Kinds::kind_of, crate::specs::Kinds::good_piece, crate::specs::Answers::colour_answer))]
     pub fn color(piece: u8) -> Result<u8, BadNumber>
         ensures { number_given result ≡ colour_answer piece }
     {

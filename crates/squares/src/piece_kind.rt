@@ -19,6 +19,7 @@ impl PieceKind {
     }
 
     // The promoted form, or nothing: Gold, King and promoted kinds do not promote.
+    #[tactic(auto, unfolding(crate::specs::Kinds::good_kind, crate::specs::Kinds::kind_row, crate::specs::Kinds::kinds, crate::specs::Answers::promoted_answer))]
     pub fn promote(kind: u8) -> Result<Option<u8>, BadNumber>
         ensures { form_given result ≡ promoted_answer kind }
     {
@@ -31,6 +32,7 @@ impl PieceKind {
     }
 
     // The unpromoted form; a kind that is not promoted is its own.
+    #[tactic(auto, unfolding(crate::specs::Kinds::good_kind, crate::specs::Kinds::kind_row, crate::specs::Kinds::kinds, crate::specs::Answers::unpromoted_answer))]
     pub fn unpromote(kind: u8) -> Result<u8, BadNumber>
         ensures { number_given result ≡ unpromoted_answer kind }
     {
@@ -43,6 +45,7 @@ impl PieceKind {
     }
 
     // How many a full set has, promoted and unpromoted together: of kings one for each colour.
+    #[tactic(auto, unfolding(crate::specs::Kinds::good_kind, crate::specs::Kinds::kind_row, crate::specs::Kinds::kinds, crate::specs::Answers::limit_answer))]
     pub fn limit(kind: u8) -> Result<u8, BadNumber>
         ensures { number_given result ≡ limit_answer kind }
     {
@@ -56,6 +59,7 @@ impl PieceKind {
     }
 
     // The byte of the capital letter, P L N S G B R K; a promoted kind has its unpromoted kind's.
+    #[tactic(auto, unfolding(crate::specs::Kinds::good_kind, crate::specs::Kinds::kind_row, crate::specs::Kinds::kinds, crate::specs::Answers::letter_answer))]
     pub fn letter(kind: u8) -> Result<u8, BadNumber>
         ensures { number_given result ≡ letter_answer kind }
     {
@@ -67,6 +71,7 @@ impl PieceKind {
         }
     }
 
+    #[tactic(auto, unfolding(crate::specs::Kinds::kind_row, crate::specs::Kinds::kinds))]
     fn unpromoted_letter(kind: u8) -> u8
         requires { (1 ≤ kind) × (kind ≤ 8) }
         ensures { result ≡ (kind_row kind).letter }
@@ -84,6 +89,7 @@ impl PieceKind {
     }
 
     // The kind as which a piece is held in hand: its unpromoted kind, and nothing for a king.
+    #[tactic(auto, unfolding(crate::specs::Kinds::good_kind, crate::specs::Kinds::hand_kind, crate::specs::Kinds::kind_row, crate::specs::Kinds::kinds, crate::specs::Answers::hand_kind_answer))]
     pub fn hand_kind(kind: u8) -> Result<Option<u8>, BadNumber>
         ensures { form_given result ≡ hand_kind_answer kind }
     {

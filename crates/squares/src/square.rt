@@ -17,6 +17,7 @@ impl Square {
         matches!(square, 1..=81)
     }
 
+    #[tactic(auto, unfolding(crate::specs::Board::square_at, crate::specs::Answers::square_answer), using(crate::proofs::Steps::side_on, crate::proofs::Steps::sides_off))]
     pub fn new(file: u8, rank: u8) -> Result<u8, BadNumber>
         ensures { number_given result ≡ square_answer file rank }
     {
@@ -26,12 +27,14 @@ impl Square {
         }
     }
 
+    #[tactic(auto, unfolding(crate::specs::Board::file_of, crate::specs::Answers::file_answer))]
     pub fn file(square: u8) -> Result<u8, BadNumber>
         ensures { number_given result ≡ file_answer square }
     {
         Ok(Self::from_zero(square)? / 9 + 1)
     }
 
+    #[tactic(auto, unfolding(crate::specs::Board::rank_of, crate::specs::Answers::rank_answer))]
     pub fn rank(square: u8) -> Result<u8, BadNumber>
         ensures { number_given result ≡ rank_answer square }
     {
@@ -39,6 +42,7 @@ impl Square {
     }
 
     // The square that the other player sees in its place.
+    #[tactic(auto, unfolding(crate::specs::Board::flip_to, crate::specs::Answers::flip_answer), using(crate::proofs::Steps::board_range))]
     pub fn flip(square: u8) -> Result<u8, BadNumber>
         ensures { number_given result ≡ flip_answer square }
     {
@@ -46,6 +50,7 @@ impl Square {
     }
 
     // A good square's number counted from 0.
+    #[tactic(auto, using(crate::proofs::Steps::board_range))]
     fn from_zero(square: u8) -> Result<u8, BadNumber>
         ensures { number_given result ≡ number_if (on_board 9 square) (square - 1) }
     {
