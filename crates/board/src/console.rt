@@ -5,7 +5,7 @@ use crate::diagram::Diagram;
 use crate::edit::Edit;
 use crate::lamps::Lamps;
 use crate::line::{Lead, Line, Moves, Stop, Word, Words, is};
-use crate::message::{Message, USI_NAMES, say_help, say_numbers};
+use crate::message::{Help, Message, Numbers, USI_NAMES};
 use crate::notation::{begins_a_move, read_move};
 use crate::request::Request;
 use crate::view::{Sfen, View};
@@ -154,11 +154,11 @@ impl Console {
     fn obey(&mut self, rt: &impl Print, request: Request) -> Result<(), Ending> {
         match request {
             Request::Edit(edit) => self.edit(rt, edit)?,
-            Request::Sfen => rt.println(Sfen(self.position))?,
+            Request::Sfen => rt.println(Sfen::of(self.position))?,
             Request::Show => self.show(rt)?,
             Request::Lamps(lamps) => self.light(rt, lamps)?,
-            Request::Numbers => say_numbers(rt)?,
-            Request::Help => say_help(rt)?,
+            Request::Numbers => rt.print(Numbers)?,
+            Request::Help => rt.print(Help)?,
             Request::Quit => {
                 rt.println(Message::Bye)?;
                 return Err(Ending::Quit);

@@ -1,103 +1,136 @@
 // The board as a person sees it: files 9 to 1 above, ranks a to i at the side.
-use crate::notation::letter;
-use position::{Move, Position};
-use squares::{BadNumber, Bitboard, Piece, PieceKind, Square};
-use std::fmt;
+use arrayvec::ArrayVec;
+use position::Move;
+use squares::{Bitboard, Square};
+use std::{fmt, str};
 
 // A place is three letters wide: + or a space, the letter, and * or a space.
 #[derive(Clone, Copy)]
 struct Place {
     is_promoted: bool,
-    letter: char,
+    letter: u8,
     is_marked: bool,
 }
 
 impl Place {
-    const VACANT: Place = Place {
-        is_promoted: false,
-        letter: '.',
-        is_marked: false,
-    };
-
-    // A cell that is no piece is vacant.
-    fn of(cell: u8) -> Self {
-        Self::of_piece(cell).unwrap_or(Self::VACANT)
-    }
-
-    fn of_piece(piece: u8) -> Result<Self, BadNumber> {
-        let kind = Piece::kind(piece)?;
-        Ok(Self {
-            is_promoted: PieceKind::unpromote(kind)? != kind,
-            letter: letter(kind, Piece::color(piece)?)?,
-            is_marked: false,
-        })
+    fn text(self) -> [u8; 3] {
+        [
+            if self.is_promoted { b'+' } else { b' ' },
+            self.letter,
+            if self.is_marked { b'*' } else { b' ' },
+        ]
     }
 }
 
-impl fmt::Display for Place {
-    fn fmt<W: fmt::Write>(&self, f: &mut fmt::Formatter<W>) -> fmt::Result {
-        f.write_char(if self.is_promoted { '+' } else { ' ' })?;
-        f.write_char(self.letter)?;
-        f.write_char(if self.is_marked { '*' } else { ' ' })
-    }
-}
-
-// The places of the squares, in their order.
+// The places in reading order: rank a from file 9 to file 1, then rank b, and so on.
 #[derive(Clone, Copy)]
 pub struct Diagram {
     places: [Place; Square::NUM],
 }
 
 impl Diagram {
-    // The pieces, with the squares marked that the last move left and reached.
-    pub fn of(p: Position) -> Self {
-        let mut diagram = Self {
-            places: p.board.map(Place::of),
-        };
-        match p.last_move() {
-            Ok(Some(Move::Normal { from, to, .. })) => {
+    const VACANT: Self = Self {
+        places: [Place {
+            is_promoted: false,
+            letter: b'.',
+            is_marked: false,
+        }; Square::NUM],
+    };
+
+    // The pieces as a position's text has them, which stand before its first space, with the squares marked that the last move left
+    // and reached.
+    pub fn of(text: &[u8], last: Option<Move>) -> Self {
+        let mut diagram = Self::VACANT;
+        let mut at = 0;
+        for &b in text {
+            if b == b' ' {
+                break;
+            }
+            at = diagram.draw(at, b);
+        }
+        match last {
+            Some(Move::Normal { from, to, .. }) => {
                 diagram.mark(from);
                 diagram.mark(to);
             }
-            Ok(Some(Move::Drop { to, .. })) => diagram.mark(to),
-            _ => {}
+            Some(Move::Drop { to, .. }) => diagram.mark(to),
+            None => {}
         }
         diagram
     }
 
+    // One byte of the text, before which so many places were passed; how many are passed after it. A digit passes vacant places, a
+    // slash none.
+    fn draw(&mut self, at: usize, b: u8) -> usize {
+        match b {
+            b'1'..=b'9' => at.saturating_add(usize::from(b - b'0')),
+            b'+' => {
+                if let Some(place) = self.places.get_mut(at) {
+                    place.is_promoted = true;
+                }
+                at
+            }
+            b'A'..=b'z' => {
+                if let Some(place) = self.places.get_mut(at) {
+                    place.letter = b;
+                }
+                at.saturating_add(1)
+            }
+            _ => at,
+        }
+    }
+
     fn mark(&mut self, square: u8) {
-        if let 1..=81 = square {
-            self.places[usize::from(square) - 1].is_marked = true;
+        if let Some(place) = self.place(square) {
+            place.is_marked = true;
         }
     }
 
     // A set of squares as lamps: o where one is lit.
     pub fn lit(set: Bitboard) -> Self {
-        let mut places = [Place::VACANT; Square::NUM];
-        for (place, square) in places.iter_mut().zip(1..=81u8) {
+        let mut diagram = Self::VACANT;
+        for square in 1..=81u8 {
             if set.contains(square) == Ok(true) {
-                place.letter = 'o';
+                diagram.light(square);
             }
         }
-        Self { places }
+        diagram
     }
 
-    // Backwards file 9 comes first, and each file from its last rank on: a rank is every ninth place, behind those of the ranks
-    // below it.
-    fn write_rank<W: fmt::Write>(&self, f: &mut fmt::Formatter<W>, below: usize) -> fmt::Result {
-        for place in self.places.iter().rev().skip(below).step_by(9) {
-            write!(f, "{place}")?;
+    fn light(&mut self, square: u8) {
+        if let Some(place) = self.place(square) {
+            place.letter = b'o';
         }
-        Ok(())
+    }
+
+    fn place(&mut self, square: u8) -> Option<&mut Place> {
+        match square {
+            1..=81 => {
+                let i = usize::from(square - 1);
+                self.places.get_mut(9 * (i % 9) + 8 - i / 9)
+            }
+            _ => None,
+        }
     }
 }
 
+// The line of a rank: its nine places, and its letter.
+fn line(rank: &[Place], letter: u8) -> ArrayVec<u8, 30> {
+    let mut line = ArrayVec::new();
+    for place in rank {
+        let _ = line.try_extend_from_slice(&place.text());
+    }
+    let _ = line.try_extend_from_slice(&[b' ', letter, b'\n']);
+    line
+}
+
 impl fmt::Display for Diagram {
+    // A line at a time: letter by letter it would cost twice as much.
     fn fmt<W: fmt::Write>(&self, f: &mut fmt::Formatter<W>) -> fmt::Result {
         f.write_str(" 9  8  7  6  5  4  3  2  1\n")?;
-        for (below, letter) in (0..9usize).rev().zip('a'..='i') {
-            self.write_rank(f, below)?;
-            writeln!(f, " {letter}")?;
+        for (rank, letter) in self.places.chunks(9).zip(b'a'..=b'i') {
+            let line = line(rank, letter);
+            f.write_str(str::from_utf8(line.as_slice()).map_err(|_| fmt::Error)?)?;
         }
         Ok(())
     }

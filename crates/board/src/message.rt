@@ -1,7 +1,7 @@
 // What is said in lines of their own: the answers in the words of document 01, and what else there is to say.
 use crate::command::Command;
 use position::Refusal;
-use std::{fmt, io};
+use std::fmt;
 
 #[derive(Clone, Copy, PartialEq, Eq)]
 pub enum Message {
@@ -118,17 +118,34 @@ impl fmt::Display for Message {
     }
 }
 
-pub fn say_numbers(rt: &impl Print) -> io::Result<()> {
-    rt.println(Message::Done)?;
-    for why in REFUSALS {
-        rt.println(words_of(why))?;
+// The lines of `numbers` and those of `help` are each said at once, so that whoever reads them finds all or none: what is printed goes out
+// by 1,024 bytes, and help, the longer, has 1,004.
+#[derive(Clone, Copy)]
+pub struct Numbers;
+
+impl fmt::Display for Numbers {
+    fn fmt<W: fmt::Write>(&self, f: &mut fmt::Formatter<W>) -> fmt::Result {
+        write_line(f, Message::Done.text())?;
+        for why in REFUSALS {
+            write_line(f, words_of(why))?;
+        }
+        Ok(())
     }
-    Ok(())
 }
 
-pub fn say_help(rt: &impl Print) -> io::Result<()> {
-    for command in Command::LISTED {
-        rt.println(command.form())?;
+#[derive(Clone, Copy)]
+pub struct Help;
+
+impl fmt::Display for Help {
+    fn fmt<W: fmt::Write>(&self, f: &mut fmt::Formatter<W>) -> fmt::Result {
+        for command in Command::LISTED {
+            write_line(f, command.form())?;
+        }
+        write_line(f, HELP_END)
     }
-    rt.println(HELP_END)
+}
+
+fn write_line<W: fmt::Write>(f: &mut fmt::Formatter<W>, line: &str) -> fmt::Result {
+    f.write_str(line)?;
+    f.write_char('\n')
 }

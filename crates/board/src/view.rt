@@ -1,52 +1,54 @@
 // What `show` and `sfen` print of a position.
 use crate::diagram::Diagram;
 use crate::notation::{MoveName, letter};
+use arrayvec::ArrayVec;
 use position::Position;
 use sfen::write_sfen;
 use squares::Color;
-use std::fmt;
+use std::{fmt, str};
 
 // The longest text of a position has so many bytes.
 const TEXT_MAX: usize = 168;
 
 // The position's text.
-#[derive(Clone, Copy)]
-pub struct Sfen(pub Position);
+#[derive(Drop)]
+pub struct Sfen(ArrayVec<u8, TEXT_MAX>);
 
-impl fmt::Display for Sfen {
-    fn fmt<W: fmt::Write>(&self, f: &mut fmt::Formatter<W>) -> fmt::Result {
-        // write_sfen fills a lent slice and says how many bytes: the count lives for this function.
-        let mut text = [0u8; TEXT_MAX];
-        let length = write_sfen(self.0, &mut text).map_err(|_| fmt::Error)?;
-        for b in text.iter().take(length) {
-            f.write_char(char::from(*b))?;
-        }
-        Ok(())
+impl Sfen {
+    // A position here is sound, and no text is longer: it is never refused.
+    pub fn of(p: Position) -> Self {
+        let mut text = ArrayVec::from([0; TEXT_MAX]);
+        let length = write_sfen(p, text.as_mut_slice()).unwrap_or(0);
+        text.truncate(length);
+        Self(text)
     }
 }
 
-// The board, the hands, whose move it is, the last move and the text.
+impl fmt::Display for Sfen {
+    fn fmt<W: fmt::Write>(&self, f: &mut fmt::Formatter<W>) -> fmt::Result {
+        f.write_str(str::from_utf8(self.0.as_slice()).map_err(|_| fmt::Error)?)
+    }
+}
+
+// The board, the hands, whose move it is, the last move and the text. The pieces are read off the text, so that their letters, the case
+// of these and the + are stated once, in `sfen`. What asks whether the position is sound is asked once.
 #[derive(Clone, Copy)]
 pub struct View(pub Position);
 
 impl fmt::Display for View {
     fn fmt<W: fmt::Write>(&self, f: &mut fmt::Formatter<W>) -> fmt::Result {
         let p = self.0;
-        let black = Hand {
-            position: p,
-            color: Color::BLACK,
-        };
-        let white = Hand {
-            position: p,
-            color: Color::WHITE,
-        };
-        write!(f, "{}{black}{white}", Diagram::of(p))?;
+        let text = Sfen::of(p);
+        let last = p.last_move().unwrap_or(None);
+        Diagram::of(text.0.as_slice(), last).fmt(f)?;
+        Hand::of(p, Color::BLACK).fmt(f)?;
+        Hand::of(p, Color::WHITE).fmt(f)?;
         writeln!(f, "{} to move, ply {}", ColorName(p.side), p.ply)?;
-        match p.last_move() {
-            Ok(Some(m)) => writeln!(f, "Last move {}, marked *", MoveName(m))?,
-            _ => f.write_str("No last move\n")?,
+        match last {
+            Some(m) => writeln!(f, "Last move {}, marked *", MoveName(m))?,
+            None => f.write_str("No last move\n")?,
         }
-        writeln!(f, "{}", Sfen(p))
+        writeln!(f, "{text}")
     }
 }
 
@@ -63,29 +65,34 @@ impl fmt::Display for ColorName {
     }
 }
 
-// What a colour holds, in the order of the text of a position.
+// What a colour holds: how many of each of the kinds `HELD`.
 #[derive(Clone, Copy)]
 struct Hand {
-    position: Position,
     color: u8,
+    counts: [u8; 7],
 }
 
 impl Hand {
-    // A kind that is never held counts as none.
-    fn count(&self, kind: u8) -> u8 {
-        self.position.hand(self.color, kind).unwrap_or(0)
+    // In the order of the text of a position.
+    const HELD: [u8; 7] = [7, 6, 5, 4, 3, 2, 1];
+
+    fn of(p: Position, color: u8) -> Self {
+        Self {
+            color,
+            counts: Self::HELD.map(|kind| p.hand(color, kind).unwrap_or(0)),
+        }
     }
 }
 
 impl fmt::Display for Hand {
     fn fmt<W: fmt::Write>(&self, f: &mut fmt::Formatter<W>) -> fmt::Result {
         write!(f, "{} holds", ColorName(self.color))?;
-        if (1..=7u8).all(|kind| self.count(kind) == 0) {
+        if self.counts == [0; 7] {
             f.write_str(" nothing")?;
         }
-        for kind in (1..=7u8).rev() {
-            let letter = letter(kind, self.color).map_err(|_| fmt::Error)?;
-            match self.count(kind) {
+        for (kind, count) in Self::HELD.iter().zip(self.counts) {
+            let letter = letter(*kind, self.color).map_err(|_| fmt::Error)?;
+            match count {
                 0 => {}
                 1 => write!(f, " {letter}")?,
                 n => write!(f, " {n}{letter}")?,
