@@ -1,4 +1,7 @@
 // The calls that hand a position back: the moves, ops 34 and 49, and the edits, ops 35 to 38. Ops by number: see ops.rt.
+ghost use Rattle.std.specs.Prelude.{◌≡◌};
+ghost use Rattle.position.specs.Answers.{answer_given};
+
 use crate::answer::{Answer, Value};
 use crate::args::{Arg, parse};
 use lent::make_move_through;
@@ -21,7 +24,6 @@ pub fn answer(op: u64, args: &[u64], answer: &mut Answer) -> Option<()> {
     }
 }
 
-// Where the call is refused the position is as given.
 fn change<A: Arg, F: Fn(Position, A) -> Result<Position, Refusal>>(
     args: &[u64],
     answer: &mut Answer,
@@ -30,7 +32,14 @@ fn change<A: Arg, F: Fn(Position, A) -> Result<Position, Refusal>>(
     requires { F.IsAlwaysCallable call }
 {
     let (given, value) = parse(args)?;
-    let after = call(given, value);
-    answer.put_result(after.map(|_| ()))?;
-    after.unwrap_or(given).put(answer)
+    let changed = call(given, value);
+    answer.put_result(changed.map(|_| ()))?;
+    after(given, changed).put(answer)
+}
+
+// The position after a call: where it was refused, as given.
+pub fn after(given: Position, changed: Result<Position, Refusal>) -> Position
+    ensures { result ≡ (answer_given given changed).position }
+{
+    changed.unwrap_or(given)
 }

@@ -1,6 +1,7 @@
 // The text, and games, which end in one: ops 39 and 90.
 use crate::answer::{Answer, Value};
 use crate::args::parse;
+use crate::change_ops::after;
 use lent::make_move_through;
 use position::{Position, Told};
 use sfen::write_sfen;
@@ -39,13 +40,9 @@ pub fn game(args: &[u64], answer: &mut Answer) -> Option<()> {
 fn play(start: Position, moves: &[u64], answer: &mut Answer) -> Option<Position> {
     let mut p = start;
     for m in moves.chunks(4) {
-        match make_move_through(p, parse(m)?) {
-            Ok(after) => {
-                answer.push(0)?;
-                p = after;
-            }
-            Err(refusal) => Told::from(refusal).number.put(answer)?,
-        }
+        let moved = make_move_through(p, parse(m)?);
+        Told::from(moved.map(|_| ())).number.put(answer)?;
+        p = after(p, moved);
     }
     Some(p)
 }
