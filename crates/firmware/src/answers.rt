@@ -71,7 +71,17 @@ impl From<Result<Option<u8>, BadNumber>> for CNumber {
     ghost from_gives = { λ answer shown. shown ≡ form_shown (form_given answer) };
 
     fn from(answer: Result<Option<u8>, BadNumber>) -> Self {
-        Self::from(answer.map(|form| form.unwrap_or(0)))
+        match answer {
+            Ok(Some(value)) => Self { number: 0, value },
+            Ok(None) => Self {
+                number: 0,
+                value: 0,
+            },
+            Err(BadNumber) => Self {
+                number: 2,
+                value: 0,
+            },
+        }
     }
 }
 
