@@ -12,8 +12,10 @@ use squares::PieceKind;
 pub(crate) fn hand_kind(cell: u8) -> u8
     ensures { result ≡ hand_kind (kind_of cell) }
 {
-    let held = PieceKind::hand_kind(kind_of(cell)).unwrap_or(None);
-    held.unwrap_or(0)
+    match PieceKind::hand_kind(kind_of(cell)).unwrap_or(None) {
+        Some(kind) => kind,
+        None => 0,
+    }
 }
 
 // Where the count of a kind, 1 to 7, stands.
