@@ -7,7 +7,7 @@ use sfen::write_sfen;
 use squares::Color;
 use std::{fmt, str};
 
-// The longest text of a position has so many bytes.
+// No text of a position has more bytes (01's bound).
 const TEXT_MAX: usize = 168;
 
 // The position's text.
@@ -65,33 +65,28 @@ impl fmt::Display for ColorName {
     }
 }
 
-// What a colour holds: how many of each of the kinds `HELD`.
+// What a colour holds: each kind with its count, in the order of the text of a position.
 #[derive(Clone, Copy)]
 struct Hand {
     color: u8,
-    counts: [u8; 7],
+    held: [(u8, u8); 7],
 }
 
 impl Hand {
-    // In the order of the text of a position.
-    const HELD: [u8; 7] = [7, 6, 5, 4, 3, 2, 1];
-
     fn of(p: Position, color: u8) -> Self {
-        Self {
-            color,
-            counts: Self::HELD.map(|kind| p.hand(color, kind).unwrap_or(0)),
-        }
+        let held = [7, 6, 5, 4, 3, 2, 1].map(|kind| (kind, p.hand(color, kind).unwrap_or(0)));
+        Self { color, held }
     }
 }
 
 impl fmt::Display for Hand {
     fn fmt<W: fmt::Write>(&self, f: &mut fmt::Formatter<W>) -> fmt::Result {
         write!(f, "{} holds", ColorName(self.color))?;
-        if self.counts == [0; 7] {
+        if self.held.iter().all(|(_, count)| *count == 0) {
             f.write_str(" nothing")?;
         }
-        for (kind, count) in Self::HELD.iter().zip(self.counts) {
-            let letter = letter(*kind, self.color).map_err(|_| fmt::Error)?;
+        for (kind, count) in self.held {
+            let letter = letter(kind, self.color).map_err(|_| fmt::Error)?;
             match count {
                 0 => {}
                 1 => write!(f, " {letter}")?,
