@@ -116,6 +116,8 @@ impl From<Result<bool, BadNumber>> for CTruth {
 impl From<Result<u16, BadNumber>> for CPattern {
     ghost from_gives = { λ answer shown. shown ≡ pattern_shown (number_given answer) };
 
+    // Else the compiler makes a choice without a jump of the two arms before it brings them into `pulfredan_set_get_file`.
+    #[inline(always)]
     fn from(answer: Result<u16, BadNumber>) -> Self {
         match answer {
             Ok(pattern) => Self { number: 0, pattern },
