@@ -8,7 +8,8 @@ ghost use Rattle.position.specs.Plans.{RoomFor, Holds};
 use crate::cells::kind_of;
 use squares::PieceKind;
 
-// The kind as which a cell's piece is held, 0 where it is not, as `hand_kind` of squares has it.
+// The kind as which a cell's piece is held, 0 where it is not, as `hand_kind` of squares has it. (A match, so that the edit
+// `taken_promoted` is wrong at the promoted pieces alone.)
 pub(crate) fn hand_kind(cell: u8) -> u8
     ensures { result ≡ hand_kind (kind_of cell) }
 {
