@@ -31,7 +31,7 @@ impl fmt::Display for Sfen {
 }
 
 // The board, the hands, whose move it is, the last move and the text. The pieces are read off the text, so that their letters, the case
-// of these and the + are stated once, in `sfen`. What asks whether the position is sound is asked once.
+// of these and the + are stated once, in `sfen`. Each call that asks whether the position is sound is made once.
 #[derive(Clone, Copy)]
 pub struct View(pub Position);
 

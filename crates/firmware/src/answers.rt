@@ -1,5 +1,5 @@
 // The answers of the crates below as C sees them, structs of numbers: specs/Shown.antt says which. Each has its own fields in
-// include/pulfredan.h, so no one generic struct can stand for them. The `From` of each differ as their fields do, and an impl by a macro is
+// include/pulfredan.h, so no one generic struct can stand for them. Their `From`s differ as their fields do, and an impl by a macro is
 // refused by the gate.
 ghost use Rattle.std.specs.Prelude.{◌≡◌};
 ghost use Rattle.squares.specs.Answers.{number_given, form_given, set_given, truth_given, pop_given};
@@ -116,7 +116,8 @@ impl From<Result<bool, BadNumber>> for CTruth {
 impl From<Result<u16, BadNumber>> for CPattern {
     ghost from_gives = { λ answer shown. shown ≡ pattern_shown (number_given answer) };
 
-    // Else the compiler makes a choice without a jump of the two arms before it brings them into `pulfredan_set_get_file`.
+    // Otherwise the compiler turns the two arms into a choice without a jump before it brings them into `pulfredan_set_get_file`, which
+    // then takes half as many instructions again.
     #[inline(always)]
     fn from(answer: Result<u16, BadNumber>) -> Self {
         match answer {
