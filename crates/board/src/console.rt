@@ -5,7 +5,7 @@ use crate::diagram::Diagram;
 use crate::edit::Edit;
 use crate::lamps::Lamps;
 use crate::line::{Lead, Line, Moves, Stop, Word, Words, is};
-use crate::message::{Help, Message, Numbers, USI_NAMES};
+use crate::message::{Help, Message, Numbers, USI_NAMES, say_at_once};
 use crate::notation::{begins_a_move, read_move};
 use crate::request::Request;
 use crate::view::{Sfen, View};
@@ -157,8 +157,8 @@ impl Console {
             Request::Sfen => rt.println(Sfen::of(self.position))?,
             Request::Show => self.show(rt)?,
             Request::Lamps(lamps) => self.light(rt, lamps)?,
-            Request::Numbers => rt.print(Numbers)?,
-            Request::Help => rt.print(Help)?,
+            Request::Numbers => say_at_once(rt, Numbers)?,
+            Request::Help => say_at_once(rt, Help)?,
             Request::Quit => {
                 rt.println(Message::Bye)?;
                 return Err(Ending::Quit);

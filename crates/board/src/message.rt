@@ -1,7 +1,10 @@
 // What is said in lines of their own: the answers in the words of document 01, and what else there is to say.
+use crate::Ending;
 use crate::command::Command;
+use arrayvec::ArrayString;
 use position::Refusal;
 use std::fmt;
+use std::fmt::Write;
 
 #[derive(Clone, Copy, PartialEq, Eq)]
 pub enum Message {
@@ -118,8 +121,19 @@ impl fmt::Display for Message {
     }
 }
 
-// The lines of `numbers` and those of `help` are each said at once, so that whoever reads them finds all or none: what is printed goes out
-// by 1,024 bytes, and help, the longer, has 1,004.
+// No answer of several lines has more bytes: of one that has, nothing would be said.
+const ROOM: usize = 4096;
+
+// Says lines by one write, so that a reader who takes one and leaves makes no write fail. (What is printed goes out by 1,024 bytes, which
+// `help` nearly fills.)
+pub fn say_at_once<D: fmt::Display + Drop>(rt: &impl Print, lines: D) -> Result<(), Ending> {
+    let mut text = ArrayString::<ROOM>::new();
+    write!(text, "{lines}").map_err(|_| Ending::WritingFailed)?;
+    rt.write_all(text.as_bytes())?;
+    Ok(())
+}
+
+// The lines of `numbers`.
 #[derive(Clone, Copy)]
 pub struct Numbers;
 
@@ -133,6 +147,7 @@ impl fmt::Display for Numbers {
     }
 }
 
+// The lines of `help`.
 #[derive(Clone, Copy)]
 pub struct Help;
 
